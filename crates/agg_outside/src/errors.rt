@@ -1,0 +1,48 @@
+use std::alloc::{AllocError, AllocFailed};
+
+/// Memory could not be had.
+#[derive(Clone, Copy, Debug, PartialEq, Eq)]
+pub struct Memory;
+
+impl From<AllocError> for Memory {
+    fn from(_: AllocError) -> Memory {
+        Memory
+    }
+}
+
+impl<T: Drop> From<AllocFailed<T>> for Memory {
+    fn from(_: AllocFailed<T>) -> Memory {
+        Memory
+    }
+}
+
+/// A device refused a call, and counted a fault.
+#[derive(Clone, Copy, Debug, PartialEq, Eq)]
+pub struct Failed;
+
+/// Why a sink took nothing.
+#[derive(Clone, Copy, Debug, PartialEq, Eq)]
+pub enum SinkError {
+    /// The sink counted a fault.
+    Failed,
+    /// Memory could not be had.
+    Memory,
+}
+
+/// Why a disk refused a call.
+#[derive(Clone, Copy, Debug, PartialEq, Eq)]
+pub enum DiskError {
+    /// The disk counted a fault.
+    Failed,
+    /// Memory could not be had.
+    Memory,
+}
+
+/// Why a keeper refused a call.
+#[derive(Clone, Copy, Debug, PartialEq, Eq)]
+pub enum KeeperError {
+    /// The keeper counted a fault.
+    Failed,
+    /// Memory could not be had.
+    Memory,
+}
