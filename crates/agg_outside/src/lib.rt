@@ -3,9 +3,23 @@
 #![tactic(auto)]
 
 mod bytes;
+mod disk;
+mod doors;
 mod errors;
+mod gate;
+mod keeper;
 mod list;
+mod rows;
+mod sink;
+mod source;
 
 pub use bytes::{Bytes, slice_fits};
+pub use disk::Disk;
+pub use doors::Doors;
 pub use errors::{DiskError, Failed, KeeperError, Memory, SinkError};
+pub use gate::{Gate, NoGate, Point};
+pub use keeper::Keeper;
 pub use list::{Keys, ListOf, Names, Numbers};
+pub use rows::{Row, RowId, RowWrite, Rowlist};
+pub use sink::Sink;
+pub use source::Source;
