@@ -1,4 +1,5 @@
 pub mod Counts
 pub mod Rows
+pub mod RowOrder
 pub mod Files
 pub mod Links
