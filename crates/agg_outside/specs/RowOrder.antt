@@ -1,6 +1,6 @@
 -- Laws of the order of rows, and of a keeper's calls on rows that ascend.
-use Rattle.std.proofs.Common.{◌≡◌, ◌⊎◌, inl, inr, ℕ, suc, ◌+◌, ◌<◌, ◌≤◌, Bool, true, false, if◌then◌else◌, cond, List, [], ◌∷◌, ◌++◌, length, take, drop, Option, Some, None, IsSome, IsNone, IsTrue, refl, sym, ap, ◌∙◌, arith}
-use Rattle.std.proofs.lemmas.Bool.{cases_Bool, true≢false}
+use Rattle.std.proofs.Common.{◌≡◌, ◌⊎◌, inl, inr, ℕ, zero, suc, ◌+◌, ◌<◌, ◌≤◌, Bool, true, false, if◌then◌else◌, List, [], ◌∷◌, ◌++◌, length, take, drop, get_or, set, insert, remove, slice_get, Option, Some, None, IsSome, IsNone, IsTrue, refl, sym, ap, ◌∙◌, arith}
+use Rattle.std.proofs.lemmas.Bool.{cases_Bool}
 use Rattle.std.specs.declared.cmp.Ordering.{Ordering}
 use Rattle.std.specs.declared.cmp.Ordering.TheVariants.{Less, Equal, Greater}
 use Rattle.std.specs.Ordering.{nat_cmp, ordering_then, ordering_reverse, eq_by_cmp, is_lt, is_eq}
@@ -246,3 +246,201 @@ written-ascends (Floor step) held s can = s
 pub applied-ascends : (writes : List RowWrite) (held : Held) → ascends held.rows ≡ true → CanApply writes held → ascends (applied writes held).rows ≡ true
 applied-ascends [] held s can = s
 applied-ascends (write ∷ writes) held s can = applied-ascends writes (written write held) (written-ascends write held s can.0) can.1
+
+-- ---- the place of an id
+
+-- every row is before the id
+abbrev pub all_before : RowId → List Row → Bool
+all_before id [] = true
+all_before id (row ∷ rows) = if is_before row.id id then all_before id rows else false
+
+-- no row is before the id
+abbrev pub none_before : RowId → List Row → Bool
+none_before id [] = true
+none_before id (row ∷ rows) = if is_before row.id id then false else none_before id rows
+
+-- the rows before the id are so many, and come first
+pub record IsPlace (id : RowId) (rows : List Row) (place : ℕ) : Type 0 where
+  pub within : place ≤ length rows
+  pub before : IsTrue (all_before id (take place rows))
+  pub rest : IsTrue (none_before id (drop place rows))
+
+none_parts : (a b : Bool) → (if a then false else b) ≡ true → (a ≡ false) × (b ≡ true)
+none_parts true b h = cc h
+none_parts false b h = (refl, h)
+
+all_first : (id : RowId) (row : Row) (rows : List Row) → all_before id (row ∷ rows) ≡ true → is_before row.id id ≡ true
+all_first id row rows h = (both_true (is_before row.id id) (all_before id rows) h).0
+
+all_rest : (id : RowId) (row : Row) (rows : List Row) → all_before id (row ∷ rows) ≡ true → all_before id rows ≡ true
+all_rest id row rows h = (both_true (is_before row.id id) (all_before id rows) h).1
+
+none_first : (id : RowId) (row : Row) (rows : List Row) → none_before id (row ∷ rows) ≡ true → is_before row.id id ≡ false
+none_first id row rows h = (none_parts (is_before row.id id) (none_before id rows) h).0
+
+none_rest : (id : RowId) (row : Row) (rows : List Row) → none_before id (row ∷ rows) ≡ true → none_before id rows ≡ true
+none_rest id row rows h = (none_parts (is_before row.id id) (none_before id rows) h).1
+
+-- the place among the rows after the first
+tail_place : (id : RowId) (row : Row) (rows : List Row) (place : ℕ) → IsPlace id (row ∷ rows) (suc place) → IsPlace id rows place
+tail_place id row rows place p =
+    let within : place ≤ length rows = let h = p.within in omega arith in
+    record { within = within; before = all_rest id row (take place rows) p.before; rest = p.rest }
+
+none_are : (a b : Bool) → a ≡ false → b ≡ true → (if a then false else b) ≡ true
+none_are true b p q = cc p
+none_are false b p q = q
+
+-- a row of rows that are after an id is after it
+after-get_or : (low : RowId) (rows : List Row) (i : ℕ) (row : Row) → ascends_after low rows ≡ true → i < length rows → is_before low (get_or rows i row).id ≡ true
+after-get_or low [] i row s h = absurd (omega arith)
+after-get_or low (r ∷ rows) zero row s h = (both_true _ _ s).0
+after-get_or low (r ∷ rows) (suc i) row s h =
+    let parts = both_true _ _ s in
+    after-get_or low rows i row (ascends_after-before low r.id rows parts.0 parts.1) (omega arith)
+
+none_before-after : (id low : RowId) (rows : List Row) → is_before low id ≡ false → ascends_after low rows ≡ true → none_before id rows ≡ true
+none_before-after id low [] n s = refl
+none_before-after id low (row ∷ rows) n s =
+    let parts = both_true _ _ s in
+    let not : is_before row.id id ≡ false = not_then_not id low row.id n (before_not_back low row.id parts.0) in
+    none_are _ _ not (none_before-after id row.id rows not parts.1)
+
+-- all up to a row that is before the id are
+pub all_before-up : (id : RowId) (rows : List Row) (i : ℕ) (row : Row) → ascends rows ≡ true → i < length rows → is_before (get_or rows i row).id id ≡ true → all_before id (take (suc i) rows) ≡ true
+all_before-up id [] i row s h b = absurd (omega arith)
+all_before-up id (r ∷ rows) zero row s h b = both_are _ _ b refl
+all_before-up id (r ∷ rows) (suc i) row s h b =
+    let k : i < length rows = omega arith in
+    let first : is_before r.id id ≡ true = before_trans r.id (get_or rows i row).id id (after-get_or r.id rows i row s k) b in
+    both_are _ _ first (all_before-up id rows i row (ascends-after r.id rows s) k b)
+
+-- none from a row on that isn't before the id is
+pub none_before-from : (id : RowId) (rows : List Row) (i : ℕ) (row : Row) → ascends rows ≡ true → i < length rows → is_before (get_or rows i row).id id ≡ false → none_before id (drop i rows) ≡ true
+none_before-from id [] i row s h n = absurd (omega arith)
+none_before-from id (r ∷ rows) zero row s h n = none_are _ _ n (none_before-after id r.id rows n s)
+none_before-from id (r ∷ rows) (suc i) row s h n = none_before-from id rows i row (ascends-after r.id rows s) (omega arith) n
+
+-- what the calls answer at the place
+pub first_from-place : (id : RowId) (rows : List Row) (place : ℕ) → IsPlace id rows place → first_from id rows ≡ slice_get rows place
+first_from-place id [] place p = refl
+first_from-place id (row ∷ rows) zero p = rw (none_first id row rows p.rest) refl
+first_from-place id (row ∷ rows) (suc place) p =
+    let first : is_before row.id id ≡ true = all_first id row (take place rows) p.before in
+    rw first (first_from-place id rows place (tail_place id row rows place p))
+
+last_before-none : (id : RowId) (rows : List Row) → none_before id rows ≡ true → last_before id rows ≡ None
+last_before-none id [] h = refl
+last_before-none id (row ∷ rows) h =
+    rw (none_first id row rows h) (last_before-none id rows (none_rest id row rows h))
+
+pub last_before-start : (id : RowId) (rows : List Row) → IsPlace id rows 0 → last_before id rows ≡ None
+last_before-start id rows p = last_before-none id rows p.rest
+
+last_or_some : (row : Row) (rows : List Row) (place : ℕ) → place < length rows → last_or row (slice_get rows place) ≡ slice_get rows place
+last_or_some row [] place h = absurd (omega arith)
+last_or_some row (r ∷ rows) zero h = refl
+last_or_some row (r ∷ rows) (suc place) h = last_or_some row rows place (omega arith)
+
+pub last_before-place : (id : RowId) (rows : List Row) (place : ℕ) → IsPlace id rows (suc place) → last_before id rows ≡ slice_get rows place
+last_before-place id [] place p = absurd (let h = p.within in omega arith)
+last_before-place id (row ∷ rows) zero p =
+    let first : is_before row.id id ≡ true = all_first id row [] p.before in
+    let none : last_before id rows ≡ None = last_before-none id rows p.rest in
+    rw (first, none) refl
+last_before-place id (row ∷ rows) (suc place) p =
+    let first : is_before row.id id ≡ true = all_first id row (take (suc place) rows) p.before in
+    let w : suc place ≤ length rows = let h = p.within in omega arith in
+    let rest : last_before id rows ≡ slice_get rows place = last_before-place id rows place (tail_place id row rows (suc place) p) in
+    rw (first, rest) (last_or_some row rows place (omega arith))
+
+rows_from-none : (id : RowId) (rows : List Row) → none_before id rows ≡ true → rows_from id rows ≡ rows
+rows_from-none id [] h = refl
+rows_from-none id (row ∷ rows) h =
+    rw (none_first id row rows h) (ap (λ (l : List Row). row ∷ l) (rows_from-none id rows (none_rest id row rows h)))
+
+pub rows_from-place : (id : RowId) (rows : List Row) (place : ℕ) → IsPlace id rows place → rows_from id rows ≡ drop place rows
+rows_from-place id [] zero p = refl
+rows_from-place id [] (suc place) p = refl
+rows_from-place id (row ∷ rows) zero p = rows_from-none id (row ∷ rows) p.rest
+rows_from-place id (row ∷ rows) (suc place) p =
+    let first : is_before row.id id ≡ true = all_first id row (take place rows) p.before in
+    rw first (rows_from-place id rows place (tail_place id row rows place p))
+
+-- a row goes in at its place
+pub insert_row-place : (new : Row) (rows : List Row) (place : ℕ) → IsPlace new.id rows place → insert_row new rows ≡ insert rows place new
+insert_row-place new [] zero p = refl
+insert_row-place new [] (suc place) p = absurd (let h = p.within in omega arith)
+insert_row-place new (row ∷ rows) zero p = rw (none_first new.id row rows p.rest) refl
+insert_row-place new (row ∷ rows) (suc place) p =
+    let first : is_before row.id new.id ≡ true = all_first new.id row (take place rows) p.before in
+    rw first (ap (λ (l : List Row). row ∷ l) (insert_row-place new rows place (tail_place new.id row rows place p)))
+
+-- rows that are all after an id don't have it
+pub row_at-after : (id : RowId) (rows : List Row) → ascends_after id rows ≡ true → row_at id rows ≡ None
+row_at-after id [] s = refl
+row_at-after id (row ∷ rows) s =
+    let parts = both_true _ _ s in
+    rw (after_not_same row.id id parts.0) (row_at-after id rows (ascends_after-before id row.id rows parts.0 parts.1))
+
+kill-after : (id : RowId) (epoch : ℕ) (rows : List Row) → ascends_after id rows ≡ true → kill_row id epoch rows ≡ rows
+kill-after id epoch [] s = refl
+kill-after id epoch (row ∷ rows) s =
+    let parts = both_true _ _ s in
+    rw (after_not_same row.id id parts.0) (ap (λ (l : List Row). row ∷ l) (kill-after id epoch rows (ascends_after-before id row.id rows parts.0 parts.1)))
+
+remove-after : (id : RowId) (rows : List Row) → ascends_after id rows ≡ true → remove_row id rows ≡ rows
+remove-after id [] s = refl
+remove-after id (row ∷ rows) s =
+    let parts = both_true _ _ s in
+    rw (after_not_same row.id id parts.0) (ap (λ (l : List Row). row ∷ l) (remove-after id rows (ascends_after-before id row.id rows parts.0 parts.1)))
+
+-- where a row that isn't before an id stands first and the id is there, it is that row's
+pub same_first : (id : RowId) (row : Row) (rows : List Row) → is_before row.id id ≡ false → ascends (row ∷ rows) ≡ true → IsSome (row_at id (row ∷ rows)) → row.id ≡ id
+same_first id row rows n s there = elim (cases_Bool (is_same row.id id)) [
+  | inl same ↦ same_is row.id id same
+  | inr other ↦
+      let after : is_before id row.id ≡ true = after_from_neither row.id id n other in
+      let gone : row_at id (row ∷ rows) ≡ None = row_at-after id (row ∷ rows) (both_are _ _ after s) in
+      cc (rw gone at there)
+]
+
+-- an id that is there is at its place
+pub row_at-place : (id : RowId) (rows : List Row) (place : ℕ) → ascends rows ≡ true → IsPlace id rows place → IsSome (row_at id rows) → (place < length rows) × ((row : Row) → (get_or rows place row).id ≡ id)
+row_at-place id [] place s p there = cc there
+row_at-place id (row ∷ rows) zero s p there =
+    let same : row.id ≡ id = same_first id row rows (none_first id row rows p.rest) s there in
+    (omega arith, λ r. same)
+row_at-place id (row ∷ rows) (suc place) s p there =
+    let first : is_before row.id id ≡ true = all_first id row (take place rows) p.before in
+    let rest : IsSome (row_at id rows) = rw (before_not_same row.id id first) at there in
+    let more = row_at-place id rows place (ascends-after row.id rows s) (tail_place id row rows place p) rest in
+    let at : place < length rows = more.0 in
+    (omega arith, more.1)
+
+-- a kill changes the row at its place, and a removal takes it away
+pub kill_row-place : (id : RowId) (epoch : ℕ) (rows : List Row) (place : ℕ) (row : Row) → ascends rows ≡ true → IsPlace id rows place → IsSome (row_at id rows) → kill_row id epoch rows ≡ set rows place (record (get_or rows place row) { killed = epoch })
+kill_row-place id epoch [] place row s p there = refl
+kill_row-place id epoch (r ∷ rows) zero row s p there =
+    let same : r.id ≡ id = same_first id r rows (none_first id r rows p.rest) s there in
+    let told : is_same r.id id ≡ true = ap (λ (w : RowId). is_same w id) same ∙ same_itself id in
+    let behind : ascends_after id rows ≡ true = ap (λ (w : RowId). ascends_after w rows) (sym same) ∙ s in
+    rw told (ap (λ (l : List Row). record r { killed = epoch } ∷ l) (kill-after id epoch rows behind))
+kill_row-place id epoch (r ∷ rows) (suc place) row s p there =
+    let first : is_before r.id id ≡ true = all_first id r (take place rows) p.before in
+    let other : is_same r.id id ≡ false = before_not_same r.id id first in
+    let rest : IsSome (row_at id rows) = rw other at there in
+    rw other (ap (λ (l : List Row). r ∷ l) (kill_row-place id epoch rows place row (ascends-after r.id rows s) (tail_place id r rows place p) rest))
+
+pub remove_row-place : (id : RowId) (rows : List Row) (place : ℕ) → ascends rows ≡ true → IsPlace id rows place → IsSome (row_at id rows) → remove_row id rows ≡ remove rows place
+remove_row-place id [] place s p there = cc there
+remove_row-place id (r ∷ rows) zero s p there =
+    let same : r.id ≡ id = same_first id r rows (none_first id r rows p.rest) s there in
+    let told : is_same r.id id ≡ true = ap (λ (w : RowId). is_same w id) same ∙ same_itself id in
+    let behind : ascends_after id rows ≡ true = ap (λ (w : RowId). ascends_after w rows) (sym same) ∙ s in
+    rw told (remove-after id rows behind)
+remove_row-place id (r ∷ rows) (suc place) s p there =
+    let first : is_before r.id id ≡ true = all_first id r (take place rows) p.before in
+    let other : is_same r.id id ≡ false = before_not_same r.id id first in
+    let rest : IsSome (row_at id rows) = rw other at there in
+    rw other (ap (λ (l : List Row). r ∷ l) (remove_row-place id rows place (ascends-after r.id rows s) (tail_place id r rows place p) rest))

@@ -39,5 +39,70 @@ pub enum RowWrite {
     Floor(u64),
 }
 
+impl PartialEq for RowId {
+    ghost use Rattle.std.specs.Ordering.{eq_by_cmp};
+    ghost use Rattle.std.specs.Cmp.{partial_equiv_from_equiv};
+    ghost use Rattle.agg_outside.specs.Rows.{id_cmp};
+    ghost use Rattle.agg_outside.specs.RowOrder.{id_eq_equiv};
+
+    ghost eq = { eq_by_cmp id_cmp };
+
+    ghost laws = { partial_equiv_from_equiv id_eq_equiv };
+
+    fn eq(&self, other: &RowId) -> bool {
+        self.cmp(other).is_eq()
+    }
+}
+
+impl Eq for RowId {
+    ghost use Rattle.agg_outside.specs.RowOrder.{id_eq_equiv};
+
+    ghost laws = { id_eq_equiv };
+}
+
+impl PartialOrd for RowId {
+    ghost use Rattle.std.specs.Prelude.{Some};
+    ghost use Rattle.agg_outside.specs.Rows.{id_cmp};
+    ghost use Rattle.agg_outside.specs.RowOrder.{id_partial_order};
+
+    ghost partial_cmp = { λ a b. Some (id_cmp a b) };
+
+    ghost laws = { id_partial_order };
+
+    fn partial_cmp(&self, other: &RowId) -> Option<Ordering> {
+        Some(self.cmp(other))
+    }
+}
+
+// By the fields in order; a later one is read only where those before it tie.
+impl Ord for RowId {
+    ghost use Rattle.std.specs.Prelude.{refl};
+    ghost use Rattle.agg_outside.specs.Rows.{id_cmp};
+    ghost use Rattle.agg_outside.specs.RowOrder.{id_cmp_total};
+
+    ghost cmp = { id_cmp };
+
+    ghost total = { id_cmp_total };
+
+    ghost matches_partial_cmp = { λ a b. refl };
+
+    ghost matches_eq = { λ a b. refl };
+
+    #[tactic(auto, unfolding(crate::specs::Rows::id_cmp))]
+    fn cmp(&self, other: &RowId) -> Ordering {
+        match self.entity.cmp(&other.entity) {
+            Ordering::Equal => {}
+            order => return order,
+        }
+        match self.key.cmp(&other.key) {
+            Ordering::Equal => {}
+            order => return order,
+        }
+        self.tx
+            .cmp(&other.tx)
+            .then(self.born.cmp(&other.born))
+    }
+}
+
 /// Rows in order.
 pub type Rowlist = ListOf<Row>;
