@@ -3,3 +3,5 @@ pub mod Rows
 pub mod RowOrder
 pub mod Files
 pub mod Links
+pub mod FileList
+pub mod Memory
