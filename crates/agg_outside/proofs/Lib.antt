@@ -1,1 +1,2 @@
 pub mod FileOrder
+pub mod RowPlaces

@@ -292,7 +292,7 @@ none_are true b p q = cc p
 none_are false b p q = q
 
 -- a row of rows that are after an id is after it
-after-get_or : (low : RowId) (rows : List Row) (i : ℕ) (row : Row) → ascends_after low rows ≡ true → i < length rows → is_before low (get_or rows i row).id ≡ true
+pub after-get_or : (low : RowId) (rows : List Row) (i : ℕ) (row : Row) → ascends_after low rows ≡ true → i < length rows → is_before low (get_or rows i row).id ≡ true
 after-get_or low [] i row s h = absurd (omega arith)
 after-get_or low (r ∷ rows) zero row s h = (both_true _ _ s).0
 after-get_or low (r ∷ rows) (suc i) row s h =

@@ -46,3 +46,36 @@ pub enum KeeperError {
     /// Memory could not be had.
     Memory,
 }
+
+impl From<Memory> for SinkError {
+    ghost use Rattle.std.specs.Prelude.{◌≡◌};
+    ghost use Rattle.agg_outside.specs.declared.errors.SinkError.TheVariants as cause;
+
+    ghost from_gives = { λ _ e. e ≡ cause.Memory };
+
+    fn from(_: Memory) -> SinkError {
+        SinkError::Memory
+    }
+}
+
+impl From<Memory> for DiskError {
+    ghost use Rattle.std.specs.Prelude.{◌≡◌};
+    ghost use Rattle.agg_outside.specs.declared.errors.DiskError.TheVariants as cause;
+
+    ghost from_gives = { λ _ e. e ≡ cause.Memory };
+
+    fn from(_: Memory) -> DiskError {
+        DiskError::Memory
+    }
+}
+
+impl From<Memory> for KeeperError {
+    ghost use Rattle.std.specs.Prelude.{◌≡◌};
+    ghost use Rattle.agg_outside.specs.declared.errors.KeeperError.TheVariants as cause;
+
+    ghost from_gives = { λ _ e. e ≡ cause.Memory };
+
+    fn from(_: Memory) -> KeeperError {
+        KeeperError::Memory
+    }
+}

@@ -1,13 +1,19 @@
 //! Sources, sinks, disks, keepers and doors in memory.
 
 mod calls;
+mod mem_keeper;
 mod mem_sink;
 mod mem_source;
 mod pieces;
+mod row_places;
+mod row_writes;
+mod sure_keeper;
 mod sure_sink;
 mod sure_source;
 
+pub use mem_keeper::MemKeeper;
 pub use mem_sink::MemSink;
 pub use mem_source::MemSource;
+pub use sure_keeper::SureKeeper;
 pub use sure_sink::SureSink;
 pub use sure_source::SureSource;

@@ -1,5 +1,9 @@
+ghost use Rattle.std.specs.Prelude.{◌≡◌, IfOk};
+
 use crate::bytes::Bytes;
+use crate::errors::Memory;
 use crate::list::ListOf;
+use std::alloc::Global;
 use std::cmp::Ordering;
 
 /// The name of a row: rows are ordered by these fields in this order.
@@ -37,6 +41,48 @@ pub enum RowWrite {
     Remove(RowId),
     /// Sets the floor, a step number.
     Floor(u64),
+}
+
+impl RowId {
+    pub fn copy(&self, alloc: Global) -> Result<RowId, Memory>
+        ensures { IfOk result (λ id. id ≡ self.now) }
+    {
+        let key = self.key.copy(alloc)?;
+        Ok(RowId {
+            entity: self.entity,
+            key,
+            tx: self.tx,
+            born: self.born,
+        })
+    }
+}
+
+impl Row {
+    pub fn copy(&self, alloc: Global) -> Result<Row, Memory>
+        ensures { IfOk result (λ row. row ≡ self.now) }
+    {
+        let id = self.id.copy(alloc)?;
+        let value = self.value.copy(alloc)?;
+        Ok(Row {
+            id,
+            killed: self.killed,
+            act: self.act,
+            value,
+        })
+    }
+}
+
+impl RowWrite {
+    pub fn copy(&self, alloc: Global) -> Result<RowWrite, Memory>
+        ensures { IfOk result (λ write. write ≡ self.now) }
+    {
+        Ok(match self {
+            RowWrite::Insert(row) => RowWrite::Insert(row.copy(alloc)?),
+            RowWrite::Kill(id, epoch) => RowWrite::Kill(id.copy(alloc)?, *epoch),
+            RowWrite::Remove(id) => RowWrite::Remove(id.copy(alloc)?),
+            RowWrite::Floor(step) => RowWrite::Floor(*step),
+        })
+    }
 }
 
 impl PartialEq for RowId {
@@ -102,6 +148,14 @@ impl Ord for RowId {
             .cmp(&other.tx)
             .then(self.born.cmp(&other.born))
     }
+}
+
+/// What a keeper in memory begins with; the ids of its rows ascend strictly.
+#[derive(Debug, Drop)]
+pub struct KeeperStart {
+    pub rows: Rowlist,
+    /// A step number.
+    pub floor: u64,
 }
 
 /// Rows in order.

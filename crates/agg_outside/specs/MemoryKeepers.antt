@@ -1,0 +1,14 @@
+-- What keepers in memory hold, and the calls that one of them counts.
+use Rattle.agg_outside.specs.declared.memory.mem_keeper.MemKeeper.{MemKeeper}
+use Rattle.agg_outside.specs.declared.memory.sure_keeper.SureKeeper.{SureKeeper}
+use Rattle.agg_outside.specs.Memory.{CallCount}
+use Rattle.agg_outside.specs.Rows.{Held}
+
+abbrev pub sure_held : SureKeeper → Held
+sure_held keeper = record { rows = keeper.rows; floor = keeper.floor }
+
+abbrev pub mem_held : MemKeeper → Held
+mem_held keeper = record { rows = keeper.rows; floor = keeper.floor }
+
+abbrev pub keeper_calls : MemKeeper → CallCount
+keeper_calls keeper = keeper.calls

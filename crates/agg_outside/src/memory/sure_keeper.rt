@@ -1,0 +1,70 @@
+//! A keeper of rows in memory.
+ghost use Rattle.std.specs.Prelude.{◌≡◌, IfOk, IsTrue, Some};
+ghost use Rattle.agg_outside.specs.Rows.{ascends};
+
+use super::row_places::{copy_rows, first_row_from, last_row_before, some_rows_from};
+use super::row_writes::apply_all;
+use crate::errors::{KeeperError, Memory};
+use crate::keeper::Keeper;
+use crate::rows::{KeeperStart, Row, RowId, RowWrite, Rowlist};
+use std::alloc::Global;
+
+/// Keeps its rows in order in memory, and never fails.
+#[derive(Debug, Drop)]
+pub struct SureKeeper {
+    rows: Rowlist,
+    floor: u64,
+    ghost in_order: { IsTrue (ascends rows) },
+}
+
+impl SureKeeper {
+    ghost use Rattle.agg_outside.specs.MemoryKeepers.{sure_held};
+
+    /// A keeper with a copy of these rows, and this floor.
+    pub fn new(alloc: Global, start: &KeeperStart) -> Result<SureKeeper, Memory>
+        requires { IsTrue (ascends start.now.rows) }
+        ensures { IfOk result (λ k. sure_held k ≡ record { rows = start.now.rows; floor = start.now.floor }) }
+    {
+        let rows = copy_rows(alloc, start.rows.as_slice())?;
+        Ok(SureKeeper {
+            rows,
+            floor: start.floor,
+        })
+    }
+}
+
+impl Keeper for SureKeeper {
+    ghost use Rattle.std.specs.Prelude.{Some};
+    ghost use Rattle.agg_outside.specs.MemoryKeepers.{sure_held};
+
+    ghost faults = { λ _. 0 };
+
+    ghost held = { λ k. Some (sure_held k) };
+
+    ghost in_order = { λ k. k.in_order };
+
+    fn seek(&mut self, alloc: Global, from: &RowId) -> Result<Option<Row>, KeeperError> {
+        Ok(first_row_from(alloc, self.rows.as_slice(), from)?)
+    }
+
+    fn seek_back(&mut self, alloc: Global, before: &RowId) -> Result<Option<Row>, KeeperError> {
+        Ok(last_row_before(alloc, self.rows.as_slice(), before)?)
+    }
+
+    fn scan_some(
+        &mut self,
+        alloc: Global,
+        from: &RowId,
+        limit: usize,
+    ) -> Result<Rowlist, KeeperError> {
+        Ok(some_rows_from(alloc, self.rows.as_slice(), from, limit)?)
+    }
+
+    fn floor(&mut self) -> Result<u64, KeeperError> {
+        Ok(self.floor)
+    }
+
+    fn apply(&mut self, alloc: Global, writes: &[RowWrite]) -> Result<(), KeeperError> {
+        Ok(apply_all(alloc, &mut self.rows, &mut self.floor, writes)?)
+    }
+}
