@@ -1,2 +1,3 @@
 pub mod FileOrder
 pub mod RowPlaces
+pub mod FileEdits

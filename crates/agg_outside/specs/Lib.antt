@@ -6,3 +6,4 @@ pub mod Links
 pub mod FileList
 pub mod Memory
 pub mod MemoryKeepers
+pub mod FilePlaces

@@ -1,6 +1,7 @@
 -- What objects in memory hold, and which of their calls fail.
-use Rattle.std.specs.Prelude.{ℕ, ◌+◌, ◌-◌, Bool, if◌then◌else◌, nat_lt, ◌==◌, List, length, min, take, drop}
+use Rattle.std.specs.Prelude.{ℕ, ◌+◌, Bool, if◌then◌else◌, nat_lt, ◌==◌, List, length, min, Option, Some, None}
 use Rattle.std.specs.List.{list_any}
+use Rattle.agg_outside.specs.Links.{Closed}
 
 -- the bytes that a source has left, and the most that it gives in a call
 pub record Supply : Type 0 where
@@ -42,3 +43,18 @@ pub record FailingSupply : Type 0 where
 pub record FailingSink : Type 0 where
   pub bytes : List ℕ
   pub count : CallCount
+
+-- what doors tell: the port and the number of links that were listened for, how many links were given
+-- out and taken back since, the inputs that are left, and the links taken back since
+pub record DoorsTold : Type 0 where
+  pub port : ℕ
+  pub links : ℕ
+  pub given : ℕ
+  pub taken : ℕ
+  pub left : List (List ℕ)
+  pub back : List Closed
+
+-- what the closed link had written, where it tells that
+abbrev pub written_by : Option Closed → Option (List ℕ)
+written_by None = None
+written_by (Some link) = link.written

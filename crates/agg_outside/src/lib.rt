@@ -23,7 +23,7 @@ pub use file_map::{FileEntry, FileMap};
 pub use gate::{Gate, NoGate, Point};
 pub use keeper::Keeper;
 pub use list::{Keys, ListOf, Names, Numbers};
-pub use memory::{MemKeeper, MemSink, MemSource, SureKeeper, SureSink, SureSource};
+pub use memory::{MemKeeper, MemSink, MemSource, SureDisk, SureDone, SureDoors, SureKeeper, SureSink, SureSource};
 pub use rows::{KeeperStart, Row, RowId, RowWrite, Rowlist};
 pub use sink::Sink;
 pub use source::Source;

@@ -1,5 +1,5 @@
 //! A sink into memory.
-ghost use Rattle.std.specs.Prelude.{◌≡◌, ◌++◌, IfOk, Some, OnErr, IsErr, length};
+ghost use Rattle.std.specs.Prelude.{◌≡◌, ◌++◌, [], IfOk, Some, OnErr, IsErr, length};
 
 use crate::errors::{Memory, SinkError};
 use crate::sink::Sink;
@@ -27,6 +27,15 @@ impl SureSink {
     {
         let bytes = Vec::from_slice(alloc, start)?;
         Ok(SureSink { bytes })
+    }
+
+    /// A sink to which nothing was written; takes no memory.
+    pub fn empty(alloc: Global) -> SureSink
+        ensures { result ≡ [] }
+    {
+        SureSink {
+            bytes: Vec::new(alloc),
+        }
     }
 
     /// All that was written.
