@@ -1,16 +1,14 @@
 -- What a change of one file in the list does to the map.
-use Rattle.std.proofs.Common.{◌≡◌, ◌≢◌, ℕ, zero, suc, ◌+◌, ◌<◌, ◌≤◌, Bool, true, false, if◌then◌else◌, cond, List, [], ◌∷◌, ◌++◌, length, map, take, drop, get_or, set, insert, remove, Option, Some, None, inl, inr, refl, sym, ap, ◌∙◌, subst, arith, drop-cons}
-use Rattle.std.proofs.lemmas.Bool.{cases_Bool}
+use Rattle.std.proofs.Common.{◌≡◌, ◌≢◌, ℕ, zero, suc, ◌<◌, ◌≤◌, Bool, true, false, cond, List, [], ◌∷◌, ◌++◌, length, map, take, drop, get_or, set, insert, remove, Option, Some, None, refl, sym, ap, ◌∙◌, arith, drop-cons}
 use Rattle.std.proofs.lemmas.List.{take-append-drop, set_split, nil_from_length}
-use Rattle.std.specs.declared.cmp.Ordering.{Ordering}
-use Rattle.std.specs.declared.cmp.Ordering.TheVariants.{Less, Equal, Greater}
-use Rattle.std.specs.Ordering.{nat_cmp, is_lt, is_eq, eq_by_cmp}
+use Rattle.std.specs.declared.cmp.Ordering.TheVariants.{Less}
+use Rattle.std.specs.Ordering.{nat_cmp, is_eq}
 use Rattle.std.specs.Cmp.{tied_itself}
 use Rattle.std.specs.Cmp.Lexicographic.{slice_cmp, nat_list_cmp_total}
 use Rattle.std.specs.FinMap as finite
-use Rattle.std.specs.FinMap.{find, from_entries, entries, get, get-from_entries, get-insert, get-remove, same_map}
+use Rattle.std.specs.FinMap.{find, entries, get, get-from_entries, get-insert, get-remove, same_map}
 use Rattle.std.specs.FinMap.{entries-insert}
-use Rattle.std.specs.FinMap.Entries.{put, by_order}
+use Rattle.std.specs.FinMap.Entries.{put}
 use Rattle.agg_outside.specs.declared.file_map.FileEntry.{FileEntry}
 use Rattle.agg_outside.specs.Files.{Files}
 use Rattle.agg_outside.specs.FilePlaces.{all_below, all_above, IsNamedAt, IsGapFor}
@@ -34,53 +32,53 @@ file_split files place d h = sym (take-append-drop place files) ∙ ap (λ (l : 
 find-named : (name q : List ℕ) (files : List FileEntry) (place : ℕ) (d : FileEntry) → IsNamedAt name files place → find (slice_cmp nat_cmp) q (pairs files) ≡ cond (same_name q name) (Some (get_or files place d).bytes) (find (slice_cmp nat_cmp) q (pairs (remove files place)))
 find-named name q files place d at =
     ap (λ (l : List FileEntry). find (slice_cmp nat_cmp) q (pairs l)) (file_split files place d at.within)
-        ∙ find-between name q (get_or files place d) (take place files) (drop (suc place) files) (at.named d) at.below
+    ∙ find-between name q (get_or files place d) (take place files) (drop (suc place) files) (at.named d) at.below
 
 pub get-named : (name : List ℕ) (files : List FileEntry) (place : ℕ) (d : FileEntry) → IsNamedAt name files place → get (files_of files) name ≡ Some (get_or files place d).bytes
 get-named name files place d at =
     get-from_entries nat_list_cmp_total (pairs files) name ∙ find-named name name files place d at
-        ∙ ap (λ (b : Bool). cond b (Some (get_or files place d).bytes) (find (slice_cmp nat_cmp) name (pairs (remove files place)))) (name_itself name)
+    ∙ ap (λ (b : Bool). cond b (Some (get_or files place d).bytes) (find (slice_cmp nat_cmp) name (pairs (remove files place)))) (name_itself name)
 
 pub get-gap : (name : List ℕ) (files : List FileEntry) (place : ℕ) → IsGapFor name files place → get (files_of files) name ≡ None
 get-gap name files place gap =
     get-from_entries nat_list_cmp_total (pairs files) name
-        ∙ ap (λ (l : List FileEntry). find (slice_cmp nat_cmp) name (pairs l)) (sym (take-append-drop place files))
-        ∙ find-neither name (take place files) (drop place files) gap.below gap.above
+    ∙ ap (λ (l : List FileEntry). find (slice_cmp nat_cmp) name (pairs l)) (sym (take-append-drop place files))
+    ∙ find-neither name (take place files) (drop place files) gap.below gap.above
 
 pub files_of-insert : (files : List FileEntry) (place : ℕ) (new : FileEntry) → IsGapFor new.name files place → files_of (insert files place new) ≡ finite.insert (files_of files) new.name new.bytes
 files_of-insert files place new gap =
     same_map nat_list_cmp_total one_name _ _ (λ q.
-        get-from_entries nat_list_cmp_total (pairs (insert files place new)) q
-            ∙ find-between new.name q new (take place files) (drop place files) refl gap.below
-            ∙ ap (λ (l : List FileEntry). cond (same_name q new.name) (Some new.bytes) (find (slice_cmp nat_cmp) q (pairs l))) (take-append-drop place files)
-            ∙ sym (get-insert nat_list_cmp_total (files_of files) new.name new.bytes q
-            ∙ ap (λ (o : Option (List ℕ)). cond (same_name q new.name) (Some new.bytes) o) (get-from_entries nat_list_cmp_total (pairs files) q)))
+    get-from_entries nat_list_cmp_total (pairs (insert files place new)) q
+    ∙ find-between new.name q new (take place files) (drop place files) refl gap.below
+    ∙ ap (λ (l : List FileEntry). cond (same_name q new.name) (Some new.bytes) (find (slice_cmp nat_cmp) q (pairs l))) (take-append-drop place files)
+    ∙ sym (get-insert nat_list_cmp_total (files_of files) new.name new.bytes q
+    ∙ ap (λ (o : Option (List ℕ)). cond (same_name q new.name) (Some new.bytes) o) (get-from_entries nat_list_cmp_total (pairs files) q)))
 
 pub files_of-set : (name bytes : List ℕ) (files : List FileEntry) (place : ℕ) (d : FileEntry) → IsNamedAt name files place → files_of (set files place (record (get_or files place d) { bytes = bytes })) ≡ finite.insert (files_of files) name bytes
 files_of-set name bytes files place d at =
     same_map nat_list_cmp_total one_name _ _ (λ q.
-        let new : FileEntry = record (get_or files place d) { bytes = bytes } in
-        get-from_entries nat_list_cmp_total (pairs (set files place new)) q
-            ∙ ap (λ (l : List FileEntry). find (slice_cmp nat_cmp) q (pairs l)) (set_split files place new at.within)
-            ∙ find-between name q new (take place files) (drop (suc place) files) (at.named d) at.below
-            ∙ sym (get-insert nat_list_cmp_total (files_of files) name bytes q
-            ∙ ap (λ (o : Option (List ℕ)). cond (same_name q name) (Some bytes) o) (get-from_entries nat_list_cmp_total (pairs files) q ∙ find-named name q files place d at)
-            ∙ shadowed (same_name q name) _ _ _))
+    let new : FileEntry = record (get_or files place d) { bytes = bytes } in
+    get-from_entries nat_list_cmp_total (pairs (set files place new)) q
+    ∙ ap (λ (l : List FileEntry). find (slice_cmp nat_cmp) q (pairs l)) (set_split files place new at.within)
+    ∙ find-between name q new (take place files) (drop (suc place) files) (at.named d) at.below
+    ∙ sym (get-insert nat_list_cmp_total (files_of files) name bytes q
+    ∙ ap (λ (o : Option (List ℕ)). cond (same_name q name) (Some bytes) o) (get-from_entries nat_list_cmp_total (pairs files) q ∙ find-named name q files place d at)
+    ∙ shadowed (same_name q name) _ _ _))
 
 removed_at : (name q : List ℕ) (files : List FileEntry) (place : ℕ) (b : Bool) → same_name q name ≡ b → IsNamedAt name files place → find (slice_cmp nat_cmp) q (pairs (remove files place)) ≡ cond b None (find (slice_cmp nat_cmp) q (pairs (remove files place)))
 removed_at name q files place false e at = refl
 removed_at name q files place true e at =
     ap (λ (w : List ℕ). find (slice_cmp nat_cmp) w (pairs (remove files place))) (name_is q name e)
-        ∙ find-neither name (take place files) (drop (suc place) files) at.below at.above
+    ∙ find-neither name (take place files) (drop (suc place) files) at.below at.above
 
 pub files_of-remove : (name : List ℕ) (files : List FileEntry) (place : ℕ) (d : FileEntry) → IsNamedAt name files place → files_of (remove files place) ≡ finite.remove (files_of files) name
 files_of-remove name files place d at =
     same_map nat_list_cmp_total one_name _ _ (λ q.
-        get-from_entries nat_list_cmp_total (pairs (remove files place)) q
-            ∙ removed_at name q files place (same_name q name) refl at
-            ∙ sym (get-remove nat_list_cmp_total (files_of files) name q
-            ∙ ap (λ (o : Option (List ℕ)). cond (same_name q name) None o) (get-from_entries nat_list_cmp_total (pairs files) q ∙ find-named name q files place d at)
-            ∙ shadowed (same_name q name) _ _ _))
+    get-from_entries nat_list_cmp_total (pairs (remove files place)) q
+    ∙ removed_at name q files place (same_name q name) refl at
+    ∙ sym (get-remove nat_list_cmp_total (files_of files) name q
+    ∙ ap (λ (o : Option (List ℕ)). cond (same_name q name) None o) (get-from_entries nat_list_cmp_total (pairs files) q ∙ find-named name q files place d at)
+    ∙ shadowed (same_name q name) _ _ _))
 
 absent_at : (name q : List ℕ) (files : List FileEntry) (b : Bool) → same_name q name ≡ b → get (files_of files) name ≡ None → cond b None (get (files_of files) q) ≡ get (files_of files) q
 absent_at name q files false e none = refl
@@ -90,7 +88,7 @@ absent_at name q files true e none = sym (ap (λ (w : List ℕ). get (files_of f
 pub files_of-remove_absent : (name : List ℕ) (files : List FileEntry) (place : ℕ) → IsGapFor name files place → files_of files ≡ finite.remove (files_of files) name
 files_of-remove_absent name files place gap =
     same_map nat_list_cmp_total one_name _ _ (λ q.
-        sym (get-remove nat_list_cmp_total (files_of files) name q ∙ absent_at name q files (same_name q name) refl (get-gap name files place gap)))
+    sym (get-remove nat_list_cmp_total (files_of files) name q ∙ absent_at name q files (same_name q name) refl (get-gap name files place gap)))
 
 -- ---- the names stay in order
 
@@ -158,8 +156,8 @@ entries-files_of [] s =
     nil_from_length (entries (files_of [])) (sym (finite.len-entries (files_of [])) ∙ finite.len-empty (slice_cmp nat_cmp) (List ℕ))
 entries-files_of (file ∷ files) s =
     entries-insert nat_list_cmp_total (files_of files) file.name file.bytes
-        ∙ ap (λ (l : List (List ℕ × List ℕ)). put (slice_cmp nat_cmp) file.name file.bytes l) (entries-files_of files (names-after file.name files s))
-        ∙ put_first file files s
+    ∙ ap (λ (l : List (List ℕ × List ℕ)). put (slice_cmp nat_cmp) file.name file.bytes l) (entries-files_of files (names-after file.name files s))
+    ∙ put_first file files s
 
 map_names : (files : List FileEntry) → map (λ (e : List ℕ × List ℕ). e.0) (pairs files) ≡ map (λ (file : FileEntry). file.name) files
 map_names [] = refl

@@ -1,20 +1,15 @@
 -- Laws of files in the order of their names, and of the map that they stand for.
-use Rattle.std.proofs.Common.{◌≡◌, ℕ, zero, suc, ◌+◌, ◌<◌, ◌≤◌, Bool, true, false, if◌then◌else◌, cond, List, [], ◌∷◌, ◌++◌, length, map, take, drop, get_or, set, insert, remove, Option, Some, None, Result, Ok, Err, MatchResult, inl, inr, refl, sym, ap, ◌∙◌, subst, arith, eq-or-lt_of_le, le_refl}
+use Rattle.std.proofs.Common.{◌≡◌, ℕ, zero, suc, ◌<◌, ◌≤◌, Bool, true, false, if◌then◌else◌, cond, List, [], ◌∷◌, ◌++◌, length, map, take, drop, get_or, Some, None, Result, Ok, Err, MatchResult, inl, inr, refl, sym, ap, ◌∙◌, subst, arith, eq-or-lt_of_le, le_refl}
 use Rattle.std.proofs.lemmas.Bool.{cases_Bool}
-use Rattle.std.proofs.lemmas.List.{take-append-drop, set_split, drop_more, map-append}
 use Rattle.std.specs.List.Sorted.{IsPartitionPoint, IsNonDecreasingBy, IsBinarySearchResult, IsSearchInRange}
 use Rattle.std.specs.declared.cmp.Ordering.{Ordering}
 use Rattle.std.specs.declared.cmp.Ordering.TheVariants.{Less, Equal, Greater}
 use Rattle.std.specs.Ordering.{nat_cmp, is_lt, is_eq, eq_by_cmp, ordering_reverse, ordering_index}
-use Rattle.std.specs.Cmp.{tied_itself, tied_back}
 use Rattle.std.specs.Cmp.Lexicographic.{slice_cmp, nat_list_cmp_total}
-use Rattle.std.specs.FinMap as finite
-use Rattle.std.specs.FinMap.{FinMap, find, from_entries, entries, entries-insert, entries-from_sorted, get-from_entries, get-insert, get-remove, get-empty, same_map, nat_cmp-IsAntisymmetric, slice_cmp-IsAntisymmetric, IsAntisymmetric}
-use Rattle.std.specs.FinMap.Entries.{put}
+use Rattle.std.specs.FinMap.{find, nat_cmp-IsAntisymmetric, slice_cmp-IsAntisymmetric, IsAntisymmetric}
 use Rattle.agg_outside.specs.declared.file_map.FileEntry.{FileEntry}
-use Rattle.agg_outside.specs.Files.{Files}
 use Rattle.agg_outside.specs.FilePlaces.{all_below, all_above, IsNamedAt, IsGapFor}
-use Rattle.agg_outside.specs.FileList.{is_below, names_ascend_after, names_ascend, is_above_last, files_of}
+use Rattle.agg_outside.specs.FileList.{is_below, names_ascend_after, names_ascend, is_above_last}
 
 pub both_true : (a b : Bool) → (if a then b else false) ≡ true → (a ≡ true) × (b ≡ true)
 both_true true b h = (refl, h)

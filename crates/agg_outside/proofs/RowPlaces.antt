@@ -1,9 +1,9 @@
 -- What a binary search finds among rows that ascend.
-use Rattle.std.proofs.Common.{◌≡◌, ℕ, zero, suc, ◌+◌, ◌<◌, ◌≤◌, Bool, true, false, if◌then◌else◌, List, [], ◌∷◌, length, take, drop, get_or, refl, arith}
+use Rattle.std.proofs.Common.{◌≡◌, ℕ, zero, suc, ◌<◌, ◌≤◌, Bool, true, false, if◌then◌else◌, List, [], ◌∷◌, length, take, drop, get_or, refl, arith}
 use Rattle.std.specs.List.Sorted.{IsPartitionPoint, IsPartitionedBy}
 use Rattle.agg_outside.specs.declared.rows.RowId.{RowId}
 use Rattle.agg_outside.specs.declared.rows.Row.{Row}
-use Rattle.agg_outside.specs.Rows.{is_before, ascends_after, ascends}
+use Rattle.agg_outside.specs.Rows.{is_before, ascends}
 use Rattle.agg_outside.specs.RowOrder.{all_before, none_before, IsPlace, before_trans, ascends-after, after-get_or}
 
 -- the rows before an id come first

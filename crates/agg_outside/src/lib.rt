@@ -14,6 +14,8 @@ mod memory;
 mod rows;
 mod sink;
 mod source;
+#[cfg(test)]
+mod tests;
 
 pub use bytes::{Bytes, slice_fits};
 pub use disk::Disk;
@@ -23,7 +25,9 @@ pub use file_map::{FileEntry, FileMap};
 pub use gate::{Gate, NoGate, Point};
 pub use keeper::Keeper;
 pub use list::{Keys, ListOf, Names, Numbers};
-pub use memory::{MemKeeper, MemSink, MemSource, SureDisk, SureDone, SureDoors, SureKeeper, SureSink, SureSource};
+pub use memory::{
+    MemKeeper, MemSink, MemSource, SureDisk, SureDone, SureDoors, SureKeeper, SureSink, SureSource,
+};
 pub use rows::{KeeperStart, Row, RowId, RowWrite, Rowlist};
 pub use sink::Sink;
 pub use source::Source;

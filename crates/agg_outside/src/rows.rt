@@ -144,9 +144,7 @@ impl Ord for RowId {
             Ordering::Equal => {}
             order => return order,
         }
-        self.tx
-            .cmp(&other.tx)
-            .then(self.born.cmp(&other.born))
+        self.tx.cmp(&other.tx).then(self.born.cmp(&other.born))
     }
 }
 

@@ -85,7 +85,9 @@ fn sources_of(alloc: Global, inputs: &[Bytes]) -> Result<VecDeque<SureSource>, M
 
 impl Doors for SureDoors {
     type In = SureSource;
+
     type Out = SureSink;
+
     type Done = SureDone;
 
     ghost faults = { λ _. 0 };

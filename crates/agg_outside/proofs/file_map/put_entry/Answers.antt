@@ -1,4 +1,4 @@
-use Rattle.std.proofs.Common.{◌≡◌, IsTrue, List, set, sym, ap, subst, ◌∙◌}
+use Rattle.std.proofs.Common.{IsTrue, List, set, sym, ap, subst, ◌∙◌}
 use Rattle.agg_outside.specs.declared.file_map.FileEntry.{FileEntry}
 use Rattle.agg_outside.specs.FileList.{names_ascend, files_of}
 use Rattle.agg_outside.specs.FilePlaces.{IsNamedAt, IsGapFor}
@@ -22,7 +22,7 @@ returns-in-Ok-clause-files c =
     let file : FileEntry = c.index_mut.result.now in
     let at : IsNamedAt c.args.name items place = rw (c.deref.ensures.value, c.as_slice.ensures) at c.in-Ok.ensures in
     ap (λ (x : FileEntry). files_of (set items place (record x { bytes = bytes }))) c.index_mut.ensures.value
-        ∙ files_of-set c.args.name bytes items place file at
+    ∙ files_of-set c.args.name bytes items place file at
 
 pub returns-in-Ok-insert-clause-ascending : goal.returns-in-Ok-insert-clause-ascending
 returns-in-Ok-insert-clause-ascending c =

@@ -1,4 +1,4 @@
-use Rattle.std.proofs.Common.{◌≡◌, Some, sym, ap, ◌∙◌}
+use Rattle.std.proofs.Common.{Some, sym, ap, ◌∙◌}
 use Rattle.agg_outside.specs.declared.file_map.FileEntry.{FileEntry}
 use Rattle.agg_outside.specs.FilePlaces.{IsNamedAt, IsGapFor}
 use Rattle.agg_outside.proofs.FileEdits.{get-named, get-gap}

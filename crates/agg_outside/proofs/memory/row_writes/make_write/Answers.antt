@@ -1,4 +1,4 @@
-use Rattle.std.proofs.Common.{◌≡◌, ◌<◌, IsSome, length, set, sym, ap, ◌∙◌, arith}
+use Rattle.std.proofs.Common.{◌<◌, IsSome, length, set, sym, ap, ◌∙◌, arith}
 use Rattle.agg_outside.specs.declared.rows.Row.{Row}
 use Rattle.agg_outside.specs.Rows.{row_at}
 use Rattle.agg_outside.specs.RowOrder.{IsPlace, row_at-place, insert_row-place, kill_row-place, remove_row-place}
@@ -35,7 +35,7 @@ returns-in-Kill-clause-rows c =
     let place : IsPlace c.in-Kill.id items at = rw c.deref-in-Kill.ensures.value at c.place_of-place-in-Kill.ensures in
     rw c.in-Kill.is
     (ap (λ (x : Row). set items at (record x { killed = c.in-Kill.epoch })) c.index_mut.ensures.value
-        ∙ sym (kill_row-place c.in-Kill.id c.in-Kill.epoch items at row c.requires.in_order place there))
+    ∙ sym (kill_row-place c.in-Kill.id c.in-Kill.epoch items at row c.requires.in_order place there))
 
 pub returns-in-Remove-clause-rows : goal.returns-in-Remove-clause-rows
 returns-in-Remove-clause-rows c =

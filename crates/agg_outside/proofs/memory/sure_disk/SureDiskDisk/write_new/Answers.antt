@@ -1,4 +1,3 @@
-use Rattle.std.proofs.Common.{rules}
 use Rattle.agg_outside.specs.FileList.{files_of}
 use Rattle.agg_outside.proofs.FileEdits.{get-insert_elsewhere}
 use Rattle.agg_outside.proofs.memory.sure_disk.SureDiskDisk.write_new.Goals as goal
