@@ -1,3 +1,4 @@
 pub mod FileOrder
 pub mod RowPlaces
 pub mod FileEdits
+pub mod RowSlots

@@ -7,3 +7,4 @@ pub mod FileList
 pub mod Memory
 pub mod MemoryKeepers
 pub mod FilePlaces
+pub mod RowTree

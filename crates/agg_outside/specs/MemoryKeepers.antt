@@ -3,9 +3,10 @@ use Rattle.agg_outside.specs.declared.memory.mem_keeper.MemKeeper.{MemKeeper}
 use Rattle.agg_outside.specs.declared.memory.sure_keeper.SureKeeper.{SureKeeper}
 use Rattle.agg_outside.specs.Memory.{CallCount}
 use Rattle.agg_outside.specs.Rows.{Held}
+use Rattle.agg_outside.specs.RowTree.{rows_of}
 
 abbrev pub sure_held : SureKeeper → Held
-sure_held keeper = record { rows = keeper.rows; floor = keeper.floor }
+sure_held keeper = record { rows = rows_of keeper.rows.entries; floor = keeper.floor }
 
 abbrev pub mem_held : MemKeeper → Held
 mem_held keeper = record { rows = keeper.rows; floor = keeper.floor }

@@ -383,13 +383,13 @@ row_at-after id (row ∷ rows) s =
     let parts = both_true _ _ s in
     rw (after_not_same row.id id parts.0) (row_at-after id rows (ascends_after-before id row.id rows parts.0 parts.1))
 
-kill-after : (id : RowId) (epoch : ℕ) (rows : List Row) → ascends_after id rows ≡ true → kill_row id epoch rows ≡ rows
+pub kill-after : (id : RowId) (epoch : ℕ) (rows : List Row) → ascends_after id rows ≡ true → kill_row id epoch rows ≡ rows
 kill-after id epoch [] s = refl
 kill-after id epoch (row ∷ rows) s =
     let parts = both_true _ _ s in
     rw (after_not_same row.id id parts.0) (ap (λ (l : List Row). row ∷ l) (kill-after id epoch rows (ascends_after-before id row.id rows parts.0 parts.1)))
 
-remove-after : (id : RowId) (rows : List Row) → ascends_after id rows ≡ true → remove_row id rows ≡ rows
+pub remove-after : (id : RowId) (rows : List Row) → ascends_after id rows ≡ true → remove_row id rows ≡ rows
 remove-after id [] s = refl
 remove-after id (row ∷ rows) s =
     let parts = both_true _ _ s in

@@ -5,7 +5,9 @@ mod mem_keeper;
 mod mem_sink;
 mod mem_source;
 mod pieces;
+mod row_body;
 mod row_places;
+mod row_tree;
 mod row_writes;
 mod sure_disk;
 mod sure_done;
@@ -13,6 +15,7 @@ mod sure_doors;
 mod sure_keeper;
 mod sure_sink;
 mod sure_source;
+mod tree_writes;
 
 pub use mem_keeper::MemKeeper;
 pub use mem_sink::MemSink;

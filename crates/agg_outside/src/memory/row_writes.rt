@@ -8,7 +8,8 @@ use crate::rows::{Row, RowWrite, Rowlist};
 use std::alloc::Global;
 use std::mem;
 
-fn copy_writes(alloc: Global, writes: &[RowWrite]) -> Result<Vec<RowWrite>, Memory>
+/// The writes, copied.
+pub fn copy_writes(alloc: Global, writes: &[RowWrite]) -> Result<Vec<RowWrite>, Memory>
     ensures { IfOk result (λ copies. copies.items ≡ writes.now) }
 {
     let mut copies = Vec::new(alloc);

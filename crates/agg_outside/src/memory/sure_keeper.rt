@@ -1,20 +1,21 @@
 //! A keeper of rows in memory.
-ghost use Rattle.std.specs.Prelude.{◌≡◌, IfOk, IsTrue, Some};
+ghost use Rattle.std.specs.Prelude.{◌≡◌, IfOk, IsTrue};
 ghost use Rattle.agg_outside.specs.Rows.{ascends};
+ghost use Rattle.agg_outside.specs.RowTree.{rows_of};
 
-use super::row_places::{copy_rows, first_row_from, last_row_before, some_rows_from};
-use super::row_writes::apply_all;
+use super::row_tree::{RowTree, first_row_from, last_row_before, some_rows_from, tree_of};
+use super::tree_writes::apply_all;
 use crate::errors::{KeeperError, Memory};
 use crate::keeper::Keeper;
 use crate::rows::{KeeperStart, Row, RowId, RowWrite, Rowlist};
 use std::alloc::Global;
 
-/// Keeps its rows in order in memory, and never fails.
+/// Keeps its rows in a tree in memory, and never fails.
 #[derive(Debug, Drop)]
 pub struct SureKeeper {
-    rows: Rowlist,
+    rows: RowTree,
     floor: u64,
-    ghost in_order: { IsTrue (ascends rows) },
+    ghost in_order: { IsTrue (ascends (rows_of rows.entries)) },
 }
 
 impl SureKeeper {
@@ -25,7 +26,7 @@ impl SureKeeper {
         requires { IsTrue (ascends start.now.rows) }
         ensures { IfOk result (λ k. sure_held k ≡ record { rows = start.now.rows; floor = start.now.floor }) }
     {
-        let rows = copy_rows(alloc, start.rows.as_slice())?;
+        let rows = tree_of(alloc, start.rows.as_slice())?;
         Ok(SureKeeper {
             rows,
             floor: start.floor,
@@ -44,11 +45,11 @@ impl Keeper for SureKeeper {
     ghost in_order = { λ k. k.in_order };
 
     fn seek(&mut self, alloc: Global, from: &RowId) -> Result<Option<Row>, KeeperError> {
-        Ok(first_row_from(alloc, self.rows.as_slice(), from)?)
+        Ok(first_row_from(alloc, &self.rows, from)?)
     }
 
     fn seek_back(&mut self, alloc: Global, before: &RowId) -> Result<Option<Row>, KeeperError> {
-        Ok(last_row_before(alloc, self.rows.as_slice(), before)?)
+        Ok(last_row_before(alloc, &self.rows, before)?)
     }
 
     fn scan_some(
@@ -57,7 +58,7 @@ impl Keeper for SureKeeper {
         from: &RowId,
         limit: usize,
     ) -> Result<Rowlist, KeeperError> {
-        Ok(some_rows_from(alloc, self.rows.as_slice(), from, limit)?)
+        Ok(some_rows_from(alloc, &self.rows, from, limit)?)
     }
 
     fn floor(&mut self) -> Result<u64, KeeperError> {
