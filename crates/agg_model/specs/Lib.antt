@@ -1,7 +1,9 @@
 pub mod Arranged
+pub mod ArrangedLaws
 pub mod Batch
 pub mod BatchRefusals
 pub mod ChangeList
 pub mod Entity
 pub mod Merged
 pub mod Place
+pub mod PlaceOrder
