@@ -1,6 +1,6 @@
 -- Laws of the sorted changes: appending, order, permutation, and the look-up.
 use Rattle.std.specs.Prelude.{◌≡◌, ◌≢◌, ℕ, ◌+◌, ◌≤◌, ◌<◌, Bool, true, false, IsTrue, List, [], ◌∷◌, ◌++◌, ◌&&◌, cond, length, nat_lt, All, Option, Some, None, IfSome, refl}
-use Rattle.std.proofs.Common.{sym, ◌∙◌, ap, subst, arith, add_assoc, append-nil, get_or, ltb-true}
+use Rattle.std.proofs.Common.{sym, ◌∙◌, ap, subst, arith, add_assoc, append-nil, get_or, le-ltb}
 use Rattle.std.specs.Option.{option_or, option_and_then}
 use Rattle.std.specs.List.Sorted.{IsPermutation}
 use Rattle.std.proofs.lemmas.List.Elements.{All-cons, All-head, All-tail, All-nil}
@@ -207,7 +207,116 @@ last_where-put_in p c [] e order = ap (λ t. option_or None (cond t (Some c) Non
 last_where-put_in p c (d ∷ ds) e order =
     last_where-put_in-by p c d ds (is_before (place_of c) (place_of d)) refl e order (last_where-put_in p c ds e order.1)
 
+le_chain : {a b c : ℕ} → a ≤ b → b ≤ c → a ≤ c
+le_chain h g = omega arith
+
+le_itself : (a : ℕ) → a ≤ a
+le_itself a = omega arith
+
 -- the change, if it is one of this entity and key
 abbrev pub only_of : Entity → List ℕ → Option Change → Option Change
 only_of e k None = None
 only_of e k (Some c) = cond (is_of e k c) (Some c) None
+
+module _ (e : Entity) (k : List ℕ) (n : ℕ) where
+  abbrev before_here : Change → Bool
+  before_here c = is_before (place_of c) (place e k n)
+
+  -- of this entity and key, the number alone decides
+  before_here-is_of : (c : Change) → is_of e k c ≡ true → before_here c ≡ nat_lt c.tx n
+  before_here-is_of c is = ap (λ p. is_before p (place e k n)) (place_of-is_of e k c is) ∙ is_before-place e k c.tx n
+
+  -- another change that is before this number is before each number of this entity and key
+  before-each : (c d : Change) → is_of e k c ≡ true → is_of e k d ≡ false → before_here d ≡ true → is_before (place_of d) (place_of c) ≡ true
+  before-each c d is other before =
+      ap (is_before (place_of d)) (place_of-is_of e k c is) ∙ is_before-other e k d c.tx n other ∙ before
+
+  not_before-lower : (c d : Change) → is_of e k c ≡ true → is_of e k d ≡ true → d.tx ≤ c.tx → is_before (place_of c) (place_of d) ≡ false
+  not_before-lower c d is is_d low =
+      (λ i. is_before (place_of-is_of e k c is i) (place_of-is_of e k d is_d i)) ∙ is_before-place e k c.tx d.tx ∙ le-ltb c.tx d.tx low
+
+  -- what was the last, before c came
+  record IsOlder (c d : Change) : Type 0 where
+    low : d.tx ≤ c.tx
+    before : before_here d ≡ true
+
+  not_before-older : (c d : Change) (t : Bool) → is_of e k d ≡ t → is_of e k c ≡ true → IsOlder c d → is_before (place_of c) (place_of d) ≡ false
+  not_before-older c d true is_d is h = not_before-lower c d is is_d h.low
+  not_before-older c d false is_d is h = is_before-back _ _ (before-each c d is is_d h.before)
+
+  only_of-later-is_of : (c : Change) (o : Option Change) → is_of e k c ≡ true → IfSome o (IsOlder c) → only_of e k (later c o) ≡ Some c
+  only_of-later-is_of c None is h = ap (λ t. cond t (Some c) None) is
+  only_of-later-is_of c (Some d) is h =
+      ap (λ t. only_of e k (cond t (Some d) (Some c))) (not_before-older c d (is_of e k d) refl is h) ∙ ap (λ t. cond t (Some c) None) is
+
+  only_of-later-other-by : (c d : Change) (t : Bool) → is_of e k d ≡ t → is_of e k c ≡ false → before_here c ≡ true → only_of e k (cond (is_before (place_of c) (place_of d)) (Some d) (Some c)) ≡ cond t (Some d) None
+  only_of-later-other-by c d true is_d other before =
+      ap (λ t. only_of e k (cond t (Some d) (Some c))) (before-each d c is_d other before) ∙ ap (λ t. cond t (Some d) None) is_d
+  only_of-later-other-by c d false is_d other before =
+      elim (is_before (place_of c) (place_of d)) as (λ u. only_of e k (cond u (Some d) (Some c)) ≡ None) [
+        | true ↦ ap (λ t. cond t (Some d) None) is_d
+        | false ↦ ap (λ t. cond t (Some c) None) other
+      ]
+
+  only_of-later-other : (c : Change) (o : Option Change) → is_of e k c ≡ false → before_here c ≡ true → only_of e k (later c o) ≡ only_of e k o
+  only_of-later-other c None other before = ap (λ t. cond t (Some c) None) other
+  only_of-later-other c (Some d) other before = only_of-later-other-by c d (is_of e k d) refl other before
+
+  IsOlder-both : (c : Change) (o : Option Change) → IfSome o (λ d. d.tx ≤ c.tx) → IfSome o (λ d. before_here d ≡ true) → IfSome o (IsOlder c)
+  IsOlder-both c None low before = tt
+  IsOlder-both c (Some d) low before = record { low = low; before = before }
+
+  put_in-step-by : (c : Change) (ds : List Change) (t u : Bool) → is_of e k c ≡ t → before_here c ≡ u → IsInOrder ds → All (λ d. d.tx ≤ c.tx) ds
+      → only_of e k (last_where before_here (put_in c ds)) ≡ option_or (cond (t && u) (Some c) None) (only_of e k (last_where before_here ds))
+  put_in-step-by c ds true true is before order low =
+      ap (only_of e k) (last_where-put_in before_here c ds before order)
+      ∙ only_of-later-is_of c (last_where before_here ds) is
+          (IsOlder-both c (last_where before_here ds) (last_where-All before_here (λ d. d.tx ≤ c.tx) ds low) (last_where-passes before_here ds))
+  put_in-step-by c ds false true is before order low =
+      ap (only_of e k) (last_where-put_in before_here c ds before order)
+      ∙ only_of-later-other c (last_where before_here ds) is before
+  put_in-step-by c ds true false is before order low = ap (only_of e k) (last_where-put_in-other before_here c ds before)
+  put_in-step-by c ds false false is before order low = ap (only_of e k) (last_where-put_in-other before_here c ds before)
+
+  both-tests : (c : Change) (t : Bool) → is_of e k c ≡ t → (t && before_here c) ≡ (t && nat_lt c.tx n)
+  both-tests c true is = before_here-is_of c is
+  both-tests c false is = refl
+
+  is_of_before-tests : (c : Change) → (is_of e k c && before_here c) ≡ is_of_before e k n c
+  unfolding is_of_before
+  is_of_before-tests c = both-tests c (is_of e k c) refl
+
+  -- the last change before a place, after a change with no lower number is put in at its place
+  pub put_in-step : (c : Change) (ds : List Change) → IsInOrder ds → All (λ d. d.tx ≤ c.tx) ds
+      → only_of e k (last_where before_here (put_in c ds)) ≡ option_or (cond (is_of_before e k n c) (Some c) None) (only_of e k (last_where before_here ds))
+  put_in-step c ds order low =
+      put_in-step-by c ds (is_of e k c) (before_here c) refl refl order low
+      ∙ ap (λ t. option_or (cond t (Some c) None) (only_of e k (last_where before_here ds))) (is_of_before-tests c)
+
+  pub look_up-from : (acc cs : List Change) (least : ℕ) → IsInOrder acc → All (λ d. d.tx ≤ least) acc → AscendFrom least cs
+      → only_of e k (last_where before_here (arranged_from acc cs)) ≡ option_or (last_where (is_of_before e k n) cs) (only_of e k (last_where before_here acc))
+  look_up-from acc [] least order low up = refl
+  look_up-from acc (c ∷ cs) least order low up =
+      let lower : All (λ d. d.tx ≤ c.tx) acc = λ i z below. le_chain (low i z below) up.0 in
+      let P = λ (d : Change). d.tx ≤ c.tx in
+      look_up-from (put_in c acc) cs c.tx (put_in-IsInOrder c acc order)
+          (All-permutation P (c ∷ acc) (put_in c acc) (put_in-IsPermutation c acc) (All-cons P c acc (le_itself c.tx) lower)) up.1
+      ∙ ap (option_or (last_where (is_of_before e k n) cs)) (put_in-step c acc order lower)
+      ∙ sym (option_or-assoc (last_where (is_of_before e k n) cs) (cond (is_of_before e k n c) (Some c) None) (only_of e k (last_where before_here acc)))
+
+  -- the last change of an entity and key below a number, by a look at the sorted changes
+  pub last_change-arranged : (cs : List Change) → AscendFrom 0 cs → last_change cs e k n ≡ only_of e k (last_before (place e k n) (arranged cs))
+  unfolding last_change last_before arranged
+  last_change-arranged cs up =
+      sym (look_up-from [] cs 0 tt (All-nil (λ (d : Change). d.tx ≤ 0)) up ∙ option_or-none (last_where (is_of_before e k n) cs))
+
+  value_for-only_of : (o : Option Change) → option_and_then value_of (only_of e k o) ≡ value_for e k o
+  value_for-only_of None = refl
+  value_for-only_of (Some c) =
+      elim (is_of e k c) as (λ t. option_and_then value_of (cond t (Some c) None) ≡ cond t (value_of c) None) [ true ↦ refl | false ↦ refl ]
+
+  -- the value of a key just before a number, by a look at the sorted changes
+  pub value_at-arranged : (cs : List Change) → AscendFrom 0 cs → value_at cs e k n ≡ value_for e k (last_before (place e k n) (arranged cs))
+  unfolding value_at
+  value_at-arranged cs up =
+      ap (option_and_then value_of) (last_change-arranged cs up) ∙ value_for-only_of (last_before (place e k n) (arranged cs))
