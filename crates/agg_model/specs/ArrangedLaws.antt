@@ -42,8 +42,8 @@ arranged_from-IsPermutation acc [] = rw append-nil (IsPermutation-refl acc)
 arranged_from-IsPermutation acc (c ∷ cs) =
     IsPermutation-trans (acc ++ c ∷ cs) (put_in c acc ++ cs) (arranged_from (put_in c acc) cs)
     (IsPermutation-trans (acc ++ c ∷ cs) ((c ∷ acc) ++ cs) (put_in c acc ++ cs)
-        (IsPermutation-middle acc c cs)
-        (IsPermutation-append_left cs (c ∷ acc) (put_in c acc) (put_in-IsPermutation c acc)))
+    (IsPermutation-middle acc c cs)
+    (IsPermutation-append_left cs (c ∷ acc) (put_in c acc) (put_in-IsPermutation c acc)))
     (arranged_from-IsPermutation (put_in c acc) cs)
 
 pub arranged-IsPermutation : (cs : List Change) → IsPermutation cs (arranged cs)
@@ -62,10 +62,11 @@ IsInOrder (c ∷ cs) = All (λ d. is_before (place_of d) (place_of c) ≡ false)
 
 put_in-IsInOrder-by : (c d : Change) (ds : List Change) (t : Bool) → is_before (place_of c) (place_of d) ≡ t → IsInOrder (d ∷ ds) → IsInOrder (put_in c ds) → IsInOrder (cond t (c ∷ d ∷ ds) (d ∷ put_in c ds))
 put_in-IsInOrder-by c d ds true e h g =
-    let behind_d : is_before (place_of d) (place_of c) ≡ false = is_before-back _ _ e in
-    (All-cons (λ x. is_before (place_of x) (place_of c) ≡ false) d ds behind_d
-        (λ k z below. not_before-chain _ _ _ behind_d (h.0 k z below)),
-        h)
+    let behind_d : is_before (place_of d) (place_of c) ≡ false = is_before-back _ _ e in (
+      All-cons (λ x. is_before (place_of x) (place_of c) ≡ false) d ds behind_d
+          (λ k z below. not_before-chain _ _ _ behind_d (h.0 k z below)),
+      h,
+    )
 put_in-IsInOrder-by c d ds false e h g =
     let P = λ (x : Change). is_before (place_of x) (place_of d) ≡ false in
     (All-permutation P (c ∷ ds) (put_in c ds) (put_in-IsPermutation c ds) (All-cons P c ds e h.0), g)
@@ -88,14 +89,15 @@ abbrev pub IsNew : Change → List Change → Type 0
 IsNew c ds = All (λ d. place_of d ≢ place_of c) ds
 
 put_in-Ascend-by : (c d : Change) (ds : List Change) (t : Bool) → is_before (place_of c) (place_of d) ≡ t → Ascend (d ∷ ds) → IsNew c (d ∷ ds) → Ascend (put_in c ds) → Ascend (cond t (c ∷ d ∷ ds) (d ∷ put_in c ds))
-put_in-Ascend-by c d ds true e h new g =
-    (All-cons (λ x. IsTrue (is_before (place_of c) (place_of x))) d ds e
-        (λ k z below. is_before-chain _ _ _ e (h.0 k z below)),
-        h)
+put_in-Ascend-by c d ds true e h new g = (
+  All-cons (λ x. IsTrue (is_before (place_of c) (place_of x))) d ds e
+      (λ k z below. is_before-chain _ _ _ e (h.0 k z below)),
+  h,
+)
 put_in-Ascend-by c d ds false e h new g =
     let P = λ (x : Change). IsTrue (is_before (place_of d) (place_of x)) in
     let behind : is_before (place_of d) (place_of c) ≡ true =
-        is_before-else (place_of c) (place_of d) e (λ same. All-head (λ x. place_of x ≢ place_of c) d ds new (sym same)) in
+    is_before-else (place_of c) (place_of d) e (λ same. All-head (λ x. place_of x ≢ place_of c) d ds new (sym same)) in
     (All-permutation P (c ∷ ds) (put_in c ds) (put_in-IsPermutation c ds) (All-cons P c ds behind h.0), g)
 
 pub put_in-Ascend : (c : Change) (ds : List Change) → Ascend ds → IsNew c ds → Ascend (put_in c ds)
@@ -111,9 +113,9 @@ arranged_from-Ascend acc (c ∷ cs) h none new =
     let rest : All (λ x. IsNew x acc) cs = All-tail (λ x. IsNew x acc) c cs new in
     arranged_from-Ascend (put_in c acc) cs (put_in-Ascend c acc h here) none.1
     (λ k z below.
-        let P = λ (x : Change). place_of x ≢ place_of (get_or cs k z) in
-        All-permutation P (c ∷ acc) (put_in c acc) (put_in-IsPermutation c acc)
-        (All-cons P c acc (λ same. none.0 k z below (sym same)) (rest k z below)))
+    let P = λ (x : Change). place_of x ≢ place_of (get_or cs k z) in
+    All-permutation P (c ∷ acc) (put_in c acc) (put_in-IsPermutation c acc)
+    (All-cons P c acc (λ same. none.0 k z below (sym same)) (rest k z below)))
 
 -- where no two changes have one place, each is before all later ones
 pub arranged-Ascend : (cs : List Change) → HasNoRepeats cs → Ascend (arranged cs)
@@ -197,7 +199,7 @@ last_where-put_in-by p c d ds true before e order h =
     let P = λ (x : Change). is_before (place_of c) (place_of x) ≡ true in
     ap (λ t. option_or (last_where p (d ∷ ds)) (cond t (Some c) None)) e
     ∙ later-before c (last_where p (d ∷ ds))
-        (last_where-All p P (d ∷ ds) (All-cons P d ds before (λ k z below. before-behind _ _ _ before (order.0 k z below))))
+    (last_where-All p P (d ∷ ds) (All-cons P d ds before (λ k z below. before-behind _ _ _ before (order.0 k z below))))
 last_where-put_in-by p c d ds false before e order h =
     ap (λ o. option_or o (cond (p d) (Some d) None)) h ∙ later-behind c d (last_where p ds) (p d) before
 
@@ -271,7 +273,7 @@ module _ (e : Entity) (k : List ℕ) (n : ℕ) where
   put_in-step-by c ds true true is before order low =
       ap (only_of e k) (last_where-put_in before_here c ds before order)
       ∙ only_of-later-is_of c (last_where before_here ds) is
-          (IsOlder-both c (last_where before_here ds) (last_where-All before_here (λ d. d.tx ≤ c.tx) ds low) (last_where-passes before_here ds))
+      (IsOlder-both c (last_where before_here ds) (last_where-All before_here (λ d. d.tx ≤ c.tx) ds low) (last_where-passes before_here ds))
   put_in-step-by c ds false true is before order low =
       ap (only_of e k) (last_where-put_in before_here c ds before order)
       ∙ only_of-later-other c (last_where before_here ds) is before
@@ -300,7 +302,7 @@ module _ (e : Entity) (k : List ℕ) (n : ℕ) where
       let lower : All (λ d. d.tx ≤ c.tx) acc = λ i z below. le_chain (low i z below) up.0 in
       let P = λ (d : Change). d.tx ≤ c.tx in
       look_up-from (put_in c acc) cs c.tx (put_in-IsInOrder c acc order)
-          (All-permutation P (c ∷ acc) (put_in c acc) (put_in-IsPermutation c acc) (All-cons P c acc (le_itself c.tx) lower)) up.1
+      (All-permutation P (c ∷ acc) (put_in c acc) (put_in-IsPermutation c acc) (All-cons P c acc (le_itself c.tx) lower)) up.1
       ∙ ap (option_or (last_where (is_of_before e k n) cs)) (put_in-step c acc order lower)
       ∙ sym (option_or-assoc (last_where (is_of_before e k n) cs) (cond (is_of_before e k n c) (Some c) None) (only_of e k (last_where before_here acc)))
 

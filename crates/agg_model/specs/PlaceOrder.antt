@@ -80,9 +80,9 @@ place_cmp-Equal p q e =
     let rest = then-Equal-second (nat_cmp p.entity q.entity) _ e in
     let entities : p.entity ≡ q.entity = nat_cmp-IsAntisymmetric _ _ (then-Equal-first (nat_cmp p.entity q.entity) _ e) in
     let keys : p.key ≡ q.key =
-        slice_cmp-IsAntisymmetric nat_cmp-IsAntisymmetric _ _ (then-Equal-first (slice_cmp nat_cmp p.key q.key) _ rest) in
+    slice_cmp-IsAntisymmetric nat_cmp-IsAntisymmetric _ _ (then-Equal-first (slice_cmp nat_cmp p.key q.key) _ rest) in
     let numbers : p.number ≡ q.number =
-        nat_cmp-IsAntisymmetric _ _ (then-Equal-second (slice_cmp nat_cmp p.key q.key) _ rest) in
+    nat_cmp-IsAntisymmetric _ _ (then-Equal-second (slice_cmp nat_cmp p.key q.key) _ rest) in
     λ i. record { entity = entities i; key = keys i; number = numbers i }
 
 pub is_same_place-true : (p q : Place) → is_same_place p q ≡ true → p ≡ q
@@ -142,5 +142,5 @@ pub is_before-other : (e : Entity) (k : List ℕ) (c : Change) (n m : ℕ) → i
 unfolding is_of is_before place_of place place_cmp
 is_before-other e k c n m h =
     let apart : (is_eq (nat_cmp (entity_number c.entity) (entity_number e)) && is_eq (slice_cmp nat_cmp c.key k)) ≡ false =
-        (λ i. unsigned_tied (entity_number c.entity) (entity_number e) i && sym (texts_ties c.key k) i) ∙ h in
+    (λ i. unsigned_tied (entity_number c.entity) (entity_number e) i && sym (texts_ties c.key k) i) ∙ h in
     is_lt-apart (nat_cmp (entity_number c.entity) (entity_number e)) (slice_cmp nat_cmp c.key k) (nat_cmp c.tx n) (nat_cmp c.tx m) apart

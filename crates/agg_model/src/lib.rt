@@ -7,5 +7,5 @@ mod check;
 mod entity;
 
 pub use change::{Act, Batch, Change, StepRows};
-pub use check::BatchError;
+pub use check::{BatchError, check_batch, content};
 pub use entity::{Entity, FileKind, Range};
