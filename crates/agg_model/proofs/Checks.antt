@@ -8,7 +8,7 @@ use Rattle.agg_model.specs.declared.check.BatchError.{BatchError}
 use Rattle.agg_model.specs.Batch.{AscendFrom, IsChange, content_of, value_length}
 use Rattle.agg_model.specs.BatchRefusals.{refusal_from, shape_refusal, number_refusal}
 
-drop_here : (items : List Change) (i : ℕ) (c : Change) → i < length items → c ≡ get_or items i c → drop i items ≡ c ∷ drop (i + 1) items
+pub drop_here : (items : List Change) (i : ℕ) (c : Change) → i < length items → c ≡ get_or items i c → drop i items ≡ c ∷ drop (i + 1) items
 drop_here items i c h is = rw add-one (drop-cons items i c h ∙ ap (λ d. d ∷ drop (suc i) items) (sym is))
 
 -- the content from a change on

@@ -124,11 +124,11 @@ arranged-Ascend cs none = arranged_from-Ascend [] cs tt none (λ k z below. All-
 
 -- ---- the look-up
 
-option_or-none : (o : Option Change) → option_or o None ≡ o
+pub option_or-none : (o : Option Change) → option_or o None ≡ o
 option_or-none None = refl
 option_or-none (Some c) = refl
 
-option_or-assoc : (x y z : Option Change) → option_or (option_or x y) z ≡ option_or x (option_or y z)
+pub option_or-assoc : (x y z : Option Change) → option_or (option_or x y) z ≡ option_or x (option_or y z)
 option_or-assoc None y z = refl
 option_or-assoc (Some c) y z = refl
 

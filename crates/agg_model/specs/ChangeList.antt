@@ -1,5 +1,5 @@
 -- The list of all changes, and what a key holds just before a number.
-use Rattle.std.specs.Prelude.{ℕ, ◌*◌, ◌^◌, ◌<◌, ◌≤◌, Bool, List, [], ◌∷◌, ◌&&◌, nat_lt, if◌then◌else◌, Option, Some, None, All}
+use Rattle.std.specs.Prelude.{ℕ, ◌+◌, ◌++◌, ◌*◌, ◌^◌, ◌<◌, ◌≤◌, Bool, List, [], ◌∷◌, ◌&&◌, nat_lt, if◌then◌else◌, Option, Some, None, All}
 use Rattle.std.specs.Option.{option_or, option_and_then}
 use Rattle.agg_model.specs.declared.entity.Entity.{Entity}
 use Rattle.agg_model.specs.declared.change.Act.{Act}
@@ -22,6 +22,15 @@ pub record IsChangeList (list : ChangeList) : Type 0 where
   pub ascend : AscendFrom 0 list.changes
   pub no_repeats : HasNoRepeats list.changes
   pub fit : All IsChange list.changes
+
+-- the next number after these changes: one above the last number
+abbrev pub next_of : ℕ → List Change → ℕ
+next_of next [] = next
+next_of next (c ∷ cs) = next_of (c.tx + 1) cs
+
+-- the list after a batch
+abbrev pub grown : ChangeList → List Change → ChangeList
+grown list batch = record { changes = list.changes ++ batch; next = next_of list.next batch; size = list.size }
 
 -- the last change that passes the test
 abbrev pub last_where : (Change → Bool) → List Change → Option Change

@@ -5,5 +5,7 @@ pub mod BatchRefusals
 pub mod ChangeList
 pub mod Entity
 pub mod Merged
+pub mod MergedLaws
+pub mod Spot
 pub mod Place
 pub mod PlaceOrder

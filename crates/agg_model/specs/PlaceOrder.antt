@@ -93,6 +93,15 @@ pub is_same_place-itself : (p : Place) → is_same_place p p ≡ true
 unfolding is_same_place
 is_same_place-itself p = ap is_eq (tied_itself place_cmp_total p)
 
+is_eq-reverse : (r : Ordering) → is_eq (ordering_reverse r) ≡ is_eq r
+is_eq-reverse Less = refl
+is_eq-reverse Equal = refl
+is_eq-reverse Greater = refl
+
+pub is_same_place-back : (p q : Place) → is_same_place p q ≡ is_same_place q p
+unfolding is_same_place
+is_same_place-back p q = ap is_eq (place_cmp_total.antisymm p q) ∙ is_eq-reverse (place_cmp q p)
+
 -- is_gt is the order the other way round
 pub is_gt-place_cmp : (p q : Place) → is_gt (place_cmp p q) ≡ is_before q p
 unfolding is_before

@@ -5,7 +5,11 @@
 mod change;
 mod check;
 mod entity;
+mod look_up;
+mod merge;
 
 pub use change::{Act, Batch, Change, StepRows};
 pub use check::{BatchError, check_batch, content};
 pub use entity::{Entity, FileKind, Range};
+pub use look_up::{arranged_laws, look_up_law, plain_value_at};
+pub use merge::merge_repeats;
