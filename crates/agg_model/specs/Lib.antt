@@ -4,6 +4,7 @@ pub mod Batch
 pub mod BatchRefusals
 pub mod ChangeList
 pub mod Entity
+pub mod GrownLaws
 pub mod Merged
 pub mod MergedLaws
 pub mod Spot

@@ -158,9 +158,9 @@ module _ (e : Entity) (k : List ℕ) (n : ℕ) where
       → option_or (last_where passes ds) (cond t (Some c) None) ≡ option_or (cond t (Some c) None) (option_or (last_where passes ds) (cond t (Some d) None))
   put_over-here c d ds true pc same none up last =
       let alone : All (λ x. passes x ≢ true) ds =
-          λ i z below px. none.0 i z below
-              (passing-place c _ pc px (squeezed (AscendFrom-All d.tx ds up i z below) (last i z below) (sym (same_number c d same)))
-              ∙ is_same_place-true _ _ same) in
+      λ i z below px. none.0 i z below
+      (passing-place c _ pc px (squeezed (AscendFrom-All d.tx ds up i z below) (last i z below) (sym (same_number c d same)))
+      ∙ is_same_place-true _ _ same) in
       ap (λ o. option_or o (Some c)) (none_passes ds alone)
   put_over-here c d ds false pc same none up last = refl
 
@@ -186,9 +186,9 @@ module _ (e : Entity) (k : List ℕ) (n : ℕ) where
       let below_c = raised m c.tx acc last rest.0 in
       let here = le_chain low rest.0 in
       merged_from-last least c.tx (put_over c acc) cs here
-          (put_over-HasNoRepeats c acc none)
-          (put_over-AscendFrom least c acc here up below_c)
-          (put_over-All (λ x. x.tx ≤ c.tx) c acc (le_itself c.tx) below_c) rest.1
+      (put_over-HasNoRepeats c acc none)
+      (put_over-AscendFrom least c acc here up below_c)
+      (put_over-All (λ x. x.tx ≤ c.tx) c acc (le_itself c.tx) below_c) rest.1
       ∙ ap (option_or (last_where passes cs)) (put_over-last least c acc none up below_c)
       ∙ sym (option_or-assoc (last_where passes cs) (cond (passes c) (Some c) None) (last_where passes acc))
 
@@ -205,8 +205,8 @@ module _ (e : Entity) (k : List ℕ) (n : ℕ) where
   value_at-merged before cs least up =
       ap (option_and_then value_of)
       (last_where-append passes before (merged cs)
-          ∙ ap (λ o. option_or o (last_where passes before)) (last_change-merged least cs up)
-          ∙ sym (last_where-append passes before cs))
+      ∙ ap (λ o. option_or o (last_where passes before)) (last_change-merged least cs up)
+      ∙ sym (last_where-append passes before cs))
 
 -- ---- the next number, the content, and that nothing becomes nothing only
 

@@ -1,6 +1,9 @@
-ghost use Rattle.std.specs.Prelude.{◌≡◌, ◌<◌, ◌↔◌, IsNone, IfSome, Some};
+ghost use Rattle.std.specs.Prelude.{◌≡◌, ◌<◌, ◌≤◌, ◌↔◌, IsNone, IfSome, Some};
 ghost use Rattle.agg_model.specs.Entity.{entity_number, entity_name, is_domain_entity};
 ghost use Rattle.agg_model.specs.declared.entity.Entity.{Entity};
+
+// How many entities there are.
+const COUNT: u8 = 7;
 
 /// What a change is about. Domains keep a value for each key, indexes only when a key was marked.
 #[derive(Clone, Copy, Debug, PartialEq, Eq)]
@@ -56,21 +59,31 @@ impl Entity {
         }
     }
 
-    /// The entity of this number; there are seven.
     #[tactic(auto, unfolding(crate::specs::Entity::entity_number))]
-    pub fn of_number(n: u8) -> Option<Entity>
-        ensures found { IfSome result (λ e. entity_number e ≡ n) }
-        ensures none { IsNone result ↔ (6 < n) }
+    fn numbered(n: u8) -> Entity
+        requires { n < 7 }
+        ensures { entity_number result ≡ n }
     {
         match n {
-            0 => Some(Entity::Accounts),
-            1 => Some(Entity::Storage),
-            2 => Some(Entity::Code),
-            3 => Some(Entity::LogAddrs),
-            4 => Some(Entity::LogTopics),
-            5 => Some(Entity::TracesFrom),
-            6 => Some(Entity::TracesTo),
-            _ => None,
+            0 => Entity::Accounts,
+            1 => Entity::Storage,
+            2 => Entity::Code,
+            3 => Entity::LogAddrs,
+            4 => Entity::LogTopics,
+            5 => Entity::TracesFrom,
+            _ => Entity::TracesTo,
+        }
+    }
+
+    /// The entity of this number; there are seven.
+    pub fn of_number(n: u8) -> Option<Entity>
+        ensures found { IfSome result (λ e. entity_number e ≡ n) }
+        ensures none { IsNone result ↔ (7 ≤ n) }
+    {
+        if n < COUNT {
+            Some(Entity::numbered(n))
+        } else {
+            None
         }
     }
 
@@ -88,6 +101,20 @@ impl Entity {
             Entity::TracesFrom => "tracesfrom",
             Entity::TracesTo => "tracesto",
         }
+    }
+
+    /// The entity of this name, byte for byte.
+    pub fn of_name(name: &[u8]) -> Option<Entity>
+        ensures found { IfSome result (λ e. entity_name e ≡ name.now) }
+        ensures only { (e : Entity) → entity_name e ≡ name.now → result ≡ Some e }
+    {
+        for number in 0..COUNT {
+            let entity = Entity::numbered(number);
+            if entity.name().as_bytes() == name {
+                return Some(entity);
+            }
+        }
+        None
     }
 
     #[tactic(auto, unfolding(crate::specs::Entity::is_domain_entity))]

@@ -12,4 +12,7 @@ pub use change::{Act, Batch, Change, StepRows};
 pub use check::{BatchError, check_batch, content};
 pub use entity::{Entity, FileKind, Range};
 pub use look_up::{arranged_laws, look_up_law, plain_value_at};
-pub use merge::merge_repeats;
+pub use merge::{grown_laws, merge_repeats, merged_laws};
+
+#[cfg(test)]
+mod tests;

@@ -60,5 +60,5 @@ pub fn arranged_laws()
 pub fn look_up_law(entity: Entity, key: &[u8], before: u64)
     ensures { (list : ChangeList) → IsChangeList list →
         value_at list.changes entity key.now before
-            ≡ value_for entity key.now (last_before (place entity key.now before) (arranged list.changes)) }
+        ≡ value_for entity key.now (last_before (place entity key.now before) (arranged list.changes)) }
 {}

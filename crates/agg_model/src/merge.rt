@@ -1,7 +1,10 @@
-ghost use Rattle.std.specs.Prelude.{◌≡◌, IfOk, Some, refl};
+ghost use Rattle.std.specs.Prelude.{◌≡◌, ℕ, ◌*◌, ◌≤◌, List, [], ◌++◌, All, IfOk, Some, refl};
 ghost use Rattle.std.specs.Ordering.{eq_by_cmp, as_partial_cmp};
 ghost use Rattle.std.specs.Cmp.{partial_equiv_from_equiv, eq_by_cmp_equiv, po};
-ghost use Rattle.agg_model.specs.Batch.{HasNoRepeats};
+ghost use Rattle.agg_model.specs.Batch.{AscendFrom, HasNoRepeats, IsBatch, content_of};
+ghost use Rattle.agg_model.specs.ChangeList.{ChangeList, IsChangeList, grown, next_of, value_at};
+ghost use Rattle.agg_model.specs.declared.change.Change.{Change};
+ghost use Rattle.agg_model.specs.declared.entity.Entity.{Entity};
 ghost use Rattle.agg_model.specs.Merged.{merged};
 ghost use Rattle.agg_model.specs.Spot.{spot, spot_cmp, spot_cmp_total};
 
@@ -88,3 +91,26 @@ pub fn merge_repeats(alloc: Global, batch: Batch) -> Result<Batch, Memory>
     }
     Ok(ListOf::from_vec(kept))
 }
+
+/// What holds of every batch once it is merged.
+pub fn merged_laws()
+    ensures no_repeats { (cs : List Change) → HasNoRepeats (merged cs) }
+
+    // It may come where the batch may, and then leaves the same values and next number.
+    ensures fits { (next far : ℕ) (cs : List Change) → IsBatch next far cs → IsBatch next far (merged cs) }
+    ensures same_values { (before cs : List Change) (least : ℕ) (e : Entity) (k : List ℕ) (n : ℕ) →
+        AscendFrom least cs → value_at (before ++ merged cs) e k n ≡ value_at (before ++ cs) e k n }
+    ensures same_next { (next least : ℕ) (cs : List Change) → AscendFrom least cs → next_of next (merged cs) ≡ next_of next cs }
+
+    ensures no_more { (cs : List Change) → content_of (merged cs) ≤ content_of cs }
+    ensures empty { (cs : List Change) → merged cs ≡ [] → cs ≡ [] }
+{}
+
+/// What holds of every list once a batch that may come next, without repeats, is added to it.
+pub fn grown_laws()
+    ensures list { (list : ChangeList) (batch : List Change) → IsChangeList list →
+        IsBatch list.next (4096 * list.size) batch → HasNoRepeats batch → IsChangeList (grown list batch) }
+    // What was there to read stays.
+    ensures stays { (cs ds : List Change) (e : Entity) (k : List ℕ) (n : ℕ) →
+        All (λ d. n ≤ d.tx) ds → value_at (cs ++ ds) e k n ≡ value_at cs e k n }
+{}

@@ -21,12 +21,12 @@ loop-change-preserved c =
     let here : i < length items = omega arith in
     elim c.if-is_earlier.branch [
       | then-is_earlier w ↦
-        ap (λ v. value_after (option_copied v) rest) w.found-is
-        ∙ ap (λ v. value_after v rest) w.value-found.ensures
-        ∙ sym (walk-here p before items i _ here c.change-item.is (sym c.is_earlier.ensures ∙ w.if-is_earlier.true))
-        ∙ c.loop-change.invariant
+          ap (λ v. value_after (option_copied v) rest) w.found-is
+          ∙ ap (λ v. value_after v rest) w.value-found.ensures
+          ∙ sym (walk-here p before items i _ here c.change-item.is (sym c.is_earlier.ensures ∙ w.if-is_earlier.true))
+          ∙ c.loop-change.invariant
       | else-is_earlier w ↦
-        ap (λ v. value_after (option_copied v) rest) w.found-is
-        ∙ sym (walk-past p before items i _ here c.change-item.is (sym c.is_earlier.ensures ∙ w.if-is_earlier.false))
-        ∙ c.loop-change.invariant
+          ap (λ v. value_after (option_copied v) rest) w.found-is
+          ∙ sym (walk-past p before items i _ here c.change-item.is (sym c.is_earlier.ensures ∙ w.if-is_earlier.false))
+          ∙ c.loop-change.invariant
     ]

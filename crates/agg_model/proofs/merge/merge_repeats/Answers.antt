@@ -36,13 +36,13 @@ loop-change-preserved-in-Some-copied c =
       can = tt;
       ends = tt;
       left =
-        ap (λ l. merged_from l rest) (sym (put_over-found change kept _ at))
-        ∙ ap (merged_from kept) (sym c.in-Some.ensures.steps.0)
-        ∙ c.loop-change.invariant.left;
+          ap (λ l. merged_from l rest) (sym (put_over-found change kept _ at))
+          ∙ ap (merged_from kept) (sym c.in-Some.ensures.steps.0)
+          ∙ c.loop-change.invariant.left;
       places = λ s.
-        c.loop-change.invariant.places s
-        ∙ sym (index_of-found (place_of_spot s) change kept _ at)
-        ∙ ap (index_of (place_of_spot s)) (put_over-found change kept _ at);
+          c.loop-change.invariant.places s
+          ∙ sym (index_of-found (place_of_spot s) change kept _ at)
+          ∙ ap (index_of (place_of_spot s)) (put_over-found change kept _ at);
     }
 
 pub loop-change-preserved : goal.loop-change-preserved
@@ -59,12 +59,12 @@ loop-change-preserved c =
       can = tt;
       ends = tt;
       left =
-        ap (λ l. merged_from l rest) (pushed ∙ sym (put_over-new change kept at))
-        ∙ ap (merged_from kept) (sym c.in-Some.ensures.steps.0)
-        ∙ c.loop-change.invariant.left;
+          ap (λ l. merged_from l rest) (pushed ∙ sym (put_over-new change kept at))
+          ∙ ap (merged_from kept) (sym c.in-Some.ensures.steps.0)
+          ∙ c.loop-change.invariant.left;
       places = λ s.
-        c.in_ok-insert.ensures.updates.0 s
-        ∙ (λ i. cond (is_same_place (place_of_spot (spot_is i)) (place_of_spot s)) (Some (long i)) (c.loop-change.invariant.places s i))
-        ∙ sym (index_of-new (place_of_spot s) change kept at)
-        ∙ ap (index_of (place_of_spot s)) (sym pushed);
+          c.in_ok-insert.ensures.updates.0 s
+          ∙ (λ i. cond (is_same_place (place_of_spot (spot_is i)) (place_of_spot s)) (Some (long i)) (c.loop-change.invariant.places s i))
+          ∙ sym (index_of-new (place_of_spot s) change kept at)
+          ∙ ap (index_of (place_of_spot s)) (sym pushed);
     }

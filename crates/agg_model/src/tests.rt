@@ -1,0 +1,81 @@
+use super::*;
+use agg_outside::{Bytes, ListOf, Memory};
+use std::alloc::Global;
+use std::test::Fail;
+
+fn put(alloc: Global, tx: u64, key: &[u8], value: &[u8]) -> Result<Change, Memory> {
+    Ok(Change {
+        tx,
+        entity: Entity::Accounts,
+        key: Bytes::of(alloc, key)?,
+        act: Act::Put(Bytes::of(alloc, value)?),
+    })
+}
+
+// aa holds 01 from 5 on and 02 from 9 on; within 5 it held 07 for a moment.
+fn two_values(alloc: Global) -> Result<Batch, Memory> {
+    let mut batch = ListOf::new(alloc);
+    batch.push(put(alloc, 5, b"\xaa", b"\x07")?)?;
+    batch.push(put(alloc, 5, b"\xaa", b"\x01")?)?;
+    batch.push(put(alloc, 9, b"\xaa", b"\x02")?)?;
+    Ok(batch)
+}
+
+#[test]
+fn a_change_counts_from_the_next_number_on(rt: HostRuntime) -> Result<(), Fail> {
+    let alloc = rt.alloc();
+    let batch = merge_repeats(alloc, two_values(alloc)?)?;
+    merged_laws();
+    grown_laws();
+    arranged_laws();
+    look_up_law(Entity::Accounts, b"\xaa", 6);
+    assert_eq!(rt; batch.len(), 2);
+    let expected: [(u64, Option<u8>); 5] = [
+        (5, None),
+        (6, Some(1)),
+        (9, Some(1)),
+        (10, Some(2)),
+        (1000, Some(2)),
+    ];
+    for (number, byte) in expected {
+        let value = plain_value_at(&batch, Entity::Accounts, b"\xaa", number);
+        let first = match value {
+            Some(bytes) => bytes.as_slice().first().copied(),
+            None => None,
+        };
+        assert!(rt; first == byte, "at {number}");
+    }
+    Ok(())
+}
+
+#[test]
+fn a_batch_is_refused_at_its_first_fault(rt: HostRuntime) -> Result<(), Fail> {
+    let alloc = rt.alloc();
+    let batch = two_values(alloc)?;
+    assert_eq!(rt; content(&batch), 3 * 66);
+    assert!(rt; check_batch(5, 10, &batch) == Ok(()));
+    assert!(rt; check_batch(6, 10, &batch) == Err(BatchError::Order { last: 5, got: 5 }));
+    assert!(rt; check_batch(0, 9, &batch) == Err(BatchError::Far { far: 9, got: 9 }));
+    let mut marks = ListOf::new(alloc);
+    marks.push(Change {
+        tx: 1,
+        entity: Entity::Code,
+        key: Bytes::of(alloc, b"")?,
+        act: Act::Mark,
+    })?;
+    assert!(rt; check_batch(0, 9, &marks) == Err(BatchError::WrongAct(Entity::Code)));
+    Ok(())
+}
+
+#[test]
+fn entities_have_numbers_and_names(rt: HostRuntime) -> Result<(), Fail> {
+    for number in 0..7 {
+        let entity = Entity::of_number(number).ok_or("there are seven")?;
+        assert_eq!(rt; entity.number(), number);
+        assert!(rt; Entity::of_name(entity.name().as_bytes()) == Some(entity));
+        assert_eq!(rt; entity.is_domain(), number < 3);
+    }
+    assert!(rt; Entity::of_number(7) == None);
+    assert!(rt; Entity::of_name(b"Accounts") == None);
+    Ok(())
+}
