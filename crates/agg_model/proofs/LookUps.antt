@@ -1,5 +1,5 @@
 -- What a walk over the changes still has to find.
-use Rattle.std.proofs.Common.{◌≡◌, ℕ, ◌+◌, ◌<◌, Bool, true, false, cond, List, ◌∷◌, Option, Some, None, length, get_or, drop, refl, sym, ◌∙◌, ap}
+use Rattle.std.proofs.Common.{◌≡◌, ℕ, ◌+◌, ◌<◌, Bool, true, false, cond, List, Option, Some, None, length, get_or, drop, refl, ◌∙◌, ap}
 use Rattle.std.specs.Option.{option_or, option_and_then}
 use Rattle.agg_model.specs.declared.change.Change.{Change}
 use Rattle.agg_model.specs.ChangeList.{last_where, value_of}

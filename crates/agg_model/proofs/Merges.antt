@@ -1,5 +1,5 @@
 -- Where in the changes kept so far the one of a place stands.
-use Rattle.std.proofs.Common.{◌≡◌, ℕ, zero, suc, ◌+◌, ◌<◌, Bool, true, false, cond, List, [], ◌∷◌, ◌++◌, Option, Some, None, length, set, refl, sym, ◌∙◌, ap, subst, arith, add-one}
+use Rattle.std.proofs.Common.{◌≡◌, ℕ, suc, ◌<◌, Bool, true, false, cond, List, [], ◌∷◌, ◌++◌, Option, Some, None, length, set, refl, sym, ◌∙◌, ap, subst, arith}
 use Rattle.std.specs.Option.{option_or, option_map}
 use Rattle.agg_model.specs.declared.change.Change.{Change}
 use Rattle.agg_model.specs.Place.{Place, place_of, is_same_place}

@@ -1,6 +1,6 @@
 -- Laws of the sorted changes: appending, order, permutation, and the look-up.
-use Rattle.std.specs.Prelude.{◌≡◌, ◌≢◌, ℕ, ◌+◌, ◌≤◌, ◌<◌, Bool, true, false, IsTrue, List, [], ◌∷◌, ◌++◌, ◌&&◌, cond, length, nat_lt, All, Option, Some, None, IfSome, refl}
-use Rattle.std.proofs.Common.{sym, ◌∙◌, ap, subst, arith, add_assoc, append-nil, get_or, le-ltb}
+use Rattle.std.specs.Prelude.{◌≡◌, ◌≢◌, ℕ, ◌≤◌, Bool, true, false, IsTrue, List, [], ◌∷◌, ◌++◌, ◌&&◌, cond, length, nat_lt, All, Option, Some, None, IfSome, refl}
+use Rattle.std.proofs.Common.{sym, ◌∙◌, ap, arith, append-nil, get_or, le-ltb}
 use Rattle.std.specs.Option.{option_or, option_and_then}
 use Rattle.std.specs.List.Sorted.{IsPermutation}
 use Rattle.std.proofs.lemmas.List.Elements.{All-cons, All-head, All-tail, All-nil}
@@ -8,7 +8,7 @@ use Rattle.std.proofs.lemmas.List.Sorted.{IsPermutation-refl, IsPermutation-cons
 use Rattle.agg_model.specs.declared.entity.Entity.{Entity}
 use Rattle.agg_model.specs.declared.change.Change.{Change}
 use Rattle.agg_model.specs.Place.{Place, place, place_of, is_before, is_of}
-use Rattle.agg_model.specs.PlaceOrder.{is_before-itself, is_before-back, is_before-else, is_before-chain, not_before-chain, is_before-place, place_of-is_of, is_before-other}
+use Rattle.agg_model.specs.PlaceOrder.{is_before-back, is_before-else, is_before-chain, not_before-chain, is_before-place, place_of-is_of, is_before-other}
 use Rattle.agg_model.specs.ChangeList.{last_where, last_change, value_at, value_of, is_of_before}
 use Rattle.agg_model.specs.Batch.{AscendFrom, HasNoRepeats}
 use Rattle.agg_model.specs.Arranged.{put_in, arranged_from, arranged, Ascend, last_before, value_for}

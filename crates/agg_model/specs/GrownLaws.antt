@@ -1,6 +1,6 @@
 -- Laws of a list that a batch is added to: it stays a list, and values before the batch stay as they are.
 use Rattle.std.specs.Prelude.{◌≡◌, ◌≢◌, ℕ, ◌+◌, ◌*◌, ◌≤◌, ◌<◌, Bool, true, false, List, [], ◌∷◌, ◌++◌, cond, ◌&&◌, nat_lt, All, Some, None, refl}
-use Rattle.std.proofs.Common.{sym, ◌∙◌, ap, arith, le-ltb}
+use Rattle.std.proofs.Common.{◌∙◌, ap, arith, le-ltb}
 use Rattle.std.specs.Option.{option_or, option_and_then}
 use Rattle.std.proofs.lemmas.List.Elements.{All-cons, All-head, All-tail, All-nil, All-append}
 use Rattle.agg_model.specs.declared.entity.Entity.{Entity}

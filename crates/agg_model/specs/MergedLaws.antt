@@ -1,5 +1,5 @@
 -- Laws of merged batches: they have no repeats, are batches where the given ones are, and leave the same values.
-use Rattle.std.specs.Prelude.{◌≡◌, ◌≢◌, ℕ, ◌+◌, ◌≤◌, ◌<◌, Bool, true, false, List, [], ◌∷◌, ◌++◌, cond, length, ◌&&◌, nat_eq, nat_lt, All, Option, Some, None, refl}
+use Rattle.std.specs.Prelude.{◌≡◌, ◌≢◌, ℕ, ◌+◌, ◌≤◌, ◌<◌, Bool, true, false, List, [], ◌∷◌, ◌++◌, cond, length, ◌&&◌, nat_eq, nat_lt, All, Some, None, refl}
 use Rattle.std.proofs.Common.{sym, ◌∙◌, ap, subst, arith}
 use Rattle.std.proofs.lemmas.Bool.{false≢true}
 use Rattle.std.specs.Option.{option_or, option_and_then}
@@ -12,7 +12,7 @@ use Rattle.agg_model.specs.declared.change.Change.{Change}
 use Rattle.agg_model.specs.Place.{Place, place, place_of, is_same_place, is_of}
 use Rattle.agg_model.specs.PlaceOrder.{is_same_place-true, is_same_place-itself, place_of-is_of}
 use Rattle.agg_model.specs.ChangeList.{last_where, last_change, value_at, value_of, is_of_before, next_of}
-use Rattle.agg_model.specs.Batch.{AscendFrom, HasNoRepeats, IsBatch, IsChange, content_of, value_length}
+use Rattle.agg_model.specs.Batch.{AscendFrom, HasNoRepeats, IsBatch, IsChange, content_of}
 use Rattle.agg_model.specs.Merged.{put_over, merged_from, merged}
 use Rattle.agg_model.specs.ArrangedLaws.{last_where-append, option_or-none, option_or-assoc}
 

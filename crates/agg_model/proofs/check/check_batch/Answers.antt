@@ -1,6 +1,5 @@
-use Rattle.std.proofs.Common.{◌≡◌, None, drop, length, ◌≤◌, List, [], ap, sym, ◌∙◌, subst, arith}
+use Rattle.std.proofs.Common.{length, ◌≤◌, ap, sym, ◌∙◌, arith}
 use Rattle.std.proofs.lemmas.List.{drop_all}
-use Rattle.agg_model.specs.declared.change.Change.{Change}
 use Rattle.agg_model.specs.BatchRefusals.{refusal_from, first_refusal}
 use Rattle.agg_model.proofs.Checks.{refusal_from-None, all_fit}
 use Rattle.agg_model.proofs.check.check_batch.Goals as goal

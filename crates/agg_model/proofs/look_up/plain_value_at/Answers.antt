@@ -1,4 +1,4 @@
-use Rattle.std.proofs.Common.{◌≡◌, ◌+◌, ◌<◌, length, drop, sym, ◌∙◌, ap, arith}
+use Rattle.std.proofs.Common.{◌+◌, ◌<◌, length, drop, sym, ◌∙◌, ap, arith}
 use Rattle.std.specs.Option.{option_and_then, option_copied}
 use Rattle.agg_model.specs.ChangeList.{is_of_before, value_at, last_change, last_where, value_of}
 use Rattle.agg_model.proofs.LookUps.{value_after, walk-here, walk-past, value_after-start}

@@ -1,10 +1,9 @@
-use Rattle.std.proofs.Common.{◌≡◌, ◌∷◌, [], Some, None, length, cond, sym, ◌∙◌, ap, subst, arith}
-use Rattle.std.specs.BTreeMap.{get, is_at}
+use Rattle.std.proofs.Common.{◌≡◌, Some, length, cond, sym, ◌∙◌, ap, arith}
+use Rattle.std.specs.BTreeMap.{is_at}
 use Rattle.std.specs.Map.{lookup}
 use Rattle.std.specs.Vec.Iter.{into_iter_items}
 use Rattle.agg_model.specs.Place.{place_of, is_same_place}
 use Rattle.agg_model.specs.Spot.{spot_cmp, place_of_spot}
-use Rattle.agg_model.specs.declared.merge.Spot.{Spot}
 use Rattle.agg_model.specs.Merged.{merged_from, merged}
 use Rattle.agg_model.proofs.Merges.{index_of, looked_up, put_over-found, put_over-new, index_of-found, index_of-new, index_below}
 use Rattle.agg_model.proofs.merge.merge_repeats.Goals as goal
