@@ -1,0 +1,6 @@
+//! Cuts of the steps into aligned ranges, which ranges to merge next, and the names of files.
+#![tactic(auto)]
+
+mod cut;
+
+pub use cut::{Cut, Group, canon_cut};
