@@ -1,5 +1,5 @@
 -- Laws of cuts: the canonical cut is one, and its ranges are unions of the ranges of each cut with its end.
-use Rattle.std.specs.Prelude.{◌≡◌, ◌≢◌, ℕ, zero, suc, ◌+◌, ◌-◌, ◌%◌, ◌≤◌, ◌<◌, Bool, true, false, cond, not, ◌==◌, ◌&&◌, ◌||◌, nat_lt, nat_le, List, [], ◌∷◌, ◌++◌, length, find, Option, Some, None, refl}
+use Rattle.std.specs.Prelude.{◌≡◌, ◌≢◌, ℕ, zero, suc, ◌+◌, ◌-◌, ◌%◌, ◌≤◌, ◌<◌, Bool, true, false, cond, not, ◌==◌, ◌&&◌, ◌||◌, nat_lt, nat_le, List, [], ◌∷◌, ◌++◌, length, find, Option, Some, None, IfSome, ◌↔◌, refl}
 use Rattle.std.proofs.Common.{sym, ◌∙◌, ap, subst, arith, eqb-true, eq-eqb, ltb-true, ltb-false, append_assoc}
 use Rattle.std.proofs.lemmas.Bool.{false≢true, leb-true, le-leb}
 use Rattle.std.specs.Cmp.{first_so, second_so}
@@ -292,3 +292,187 @@ union_from (suc most) a m cut g chain last any none =
 pub union_of_two : (cut : List Range) (g : Range) → IsCut cut → contains_range (canon (end_of cut)) g ≡ true → contains_range cut g ≡ false → IsUnionIn cut g
 unfolding canon
 union_of_two cut g chain any none = union_from (end_of cut) 0 (end_of cut) cut g chain refl any none
+
+-- ---- a cut with all ranges of the canonical cut is it
+
+-- each of the ranges is in the cut
+abbrev pub HasAll : List Range → List Range → Type 0
+HasAll cut [] = Unit {0}
+HasAll cut (g ∷ gs) = (contains_range cut g ≡ true) × HasAll cut gs
+
+all_later : (a b : ℕ) (r : Range) (rs gs : List Range) → r.from ≡ a → a < b → IsCutFrom b gs → HasAll (r ∷ rs) gs → HasAll rs gs
+all_later a b r rs [] starts up chain all = tt
+all_later a b r rs (g ∷ gs) starts up chain all =
+    let some = (aligned_from g chain.1).some in
+    let from : g.from ≡ b = chain.0 in
+    (not_first (same_range r g) refl from all.0, all_later a g.to r rs gs starts (omega arith) chain.2 all.1)
+  where
+    not_first : (t : Bool) → same_range r g ≡ t → g.from ≡ b → (t || contains_range rs g) ≡ true → contains_range rs g ≡ true
+    not_first true e from any =
+        let same : r.from ≡ g.from = ap (λ (q : Range). q.from) (same_range-true r g e) in
+        absurd (let start : r.from ≡ a = starts in omega arith)
+    not_first false e from any = any
+
+-- the range of a cut that begins where the cut begins is its first
+first_is : (a : ℕ) (r g : Range) (rs : List Range) → IsCutFrom a (r ∷ rs) → g.from ≡ a → contains_range (r ∷ rs) g ≡ true → r ≡ g
+first_is a r g rs chain from any = by (same_range r g) refl any
+  where
+    by : (t : Bool) → same_range r g ≡ t → (t || contains_range rs g) ≡ true → r ≡ g
+    by true e any = same_range-true r g e
+    by false e any =
+        let later : r.to ≤ g.from = contained_from r.to rs g chain.2 any in
+        let some = (aligned_from r chain.1).some in
+        let starts : r.from ≡ a = chain.0 in
+        absurd (omega arith)
+
+module _ (a m most : ℕ) (below : a < m) (small : m ≤ 4096) where
+  canon-first : (cut : List Range) → IsCutFrom a cut → end_from a cut ≡ m → contains_range cut (largest_at a m) ≡ true
+      → HasAll cut (canon_from most (a + size_at a m) m)
+      → ((rs : List Range) → IsCutFrom (a + size_at a m) rs → end_from (a + size_at a m) rs ≡ m → HasAll rs (canon_from most (a + size_at a m) m) → rs ≡ canon_from most (a + size_at a m) m)
+      → cut ≡ largest_at a m ∷ canon_from most (a + size_at a m) m
+  unfolding largest_at
+  canon-first [] chain last any all more = absurd (false≢true any)
+  canon-first (r ∷ rs) chain last any all more =
+      let same : r ≡ largest_at a m = first_is a r (largest_at a m) rs chain refl any in
+      let to : r.to ≡ a + size_at a m = ap (λ (q : Range). q.to) same in
+      let positive = positive_at a m below in
+      let later = all_later a (a + size_at a m) r rs (canon_from most (a + size_at a m) m) chain.0 (omega arith)
+              (canon_from-IsCutFrom most (a + size_at a m) m small) all in
+      λ i. same i ∷ more rs (subst (λ z. IsCutFrom z rs) to chain.2) (subst (λ z. end_from z rs ≡ m) to last) later i
+
+no_more : (a : ℕ) (cut : List Range) → IsCutFrom a cut → end_from a cut ≤ a → cut ≡ []
+no_more a [] chain last = refl
+no_more a (r ∷ rs) chain last =
+    let some = (aligned_from r chain.1).some in
+    let starts : r.from ≡ a = chain.0 in
+    let above : r.to ≤ end_from r.to rs = end_from-above r.to rs chain.2 in
+    absurd (omega arith)
+
+canon_all-by : (most a m : ℕ) (cut : List Range) (t : Bool) → nat_lt a m ≡ t → m ≤ 4096 → IsCutFrom a cut → end_from a cut ≡ m
+    → HasAll cut (cond t (largest_at a m ∷ canon_from most (a + size_at a m) m) [])
+    → ((a < m) → (rs : List Range) → IsCutFrom (a + size_at a m) rs → end_from (a + size_at a m) rs ≡ m → HasAll rs (canon_from most (a + size_at a m) m) → rs ≡ canon_from most (a + size_at a m) m)
+    → cut ≡ cond t (largest_at a m ∷ canon_from most (a + size_at a m) m) []
+canon_all-by most a m cut true e small chain last all more =
+    canon-first a m most (ltb-true a m e) small cut chain last all.0 all.1 (more (ltb-true a m e))
+canon_all-by most a m cut false e small chain last all more = no_more a cut chain (let over : m ≤ a = ltb-false a m e in omega arith)
+
+canon_all : (most a m : ℕ) (cut : List Range) → m ≤ a + most → m ≤ 4096 → IsCutFrom a cut → end_from a cut ≡ m → HasAll cut (canon_from most a m) → cut ≡ canon_from most a m
+canon_all zero a m cut h small chain last all = no_more a cut chain (omega arith)
+canon_all (suc most) a m cut h small chain last all =
+    canon_all-by most a m cut (nat_lt a m) refl small chain last all (λ below rs.
+        canon_all most (a + size_at a m) m rs (next_most a m most (size_at a m) (positive_at a m below) h) small)
+
+pub end_from-within : (a : ℕ) (cut : List Range) → a ≤ 4096 → IsCutFrom a cut → end_from a cut ≤ 4096
+end_from-within a [] h chain = h
+end_from-within a (r ∷ rs) h chain = let al = aligned_from r chain.1 in end_from-within r.to rs al.within chain.2
+
+pub end_of-within : (cut : List Range) → IsCut cut → end_of cut ≤ 4096
+end_of-within cut chain = end_from-within 0 cut (omega arith) chain
+
+-- a cut with all ranges of the canonical cut of its end is that cut
+pub canon_of_all : (cut : List Range) → IsCut cut → HasAll cut (canon (end_of cut)) → cut ≡ canon (end_of cut)
+unfolding canon
+canon_of_all cut chain all =
+    canon_all (end_of cut) 0 (end_of cut) cut (omega arith) (end_of-within cut chain) chain refl all
+
+-- ---- what is to be merged
+
+find_all : (p : Range → Bool) (cut gs : List Range) → ((g : Range) → p g ≡ false → contains_range cut g ≡ true) → find p gs ≡ None → HasAll cut gs
+find_all p cut [] means none = tt
+find_all p cut (g ∷ gs) means none = by (p g) refl none (find_all p cut gs means)
+  where
+    by : (t : Bool) → p g ≡ t → cond t (Some g) (find p gs) ≡ None → (find p gs ≡ None → HasAll cut gs) → HasAll cut (g ∷ gs)
+    by true e none rest = absurd (none_is_some g none)
+      where
+        none_is_some : (g : Range) → ◌≡◌ {A = Option Range} (Some g) None → ⊥
+        none_is_some g e = cc
+    by false e none rest = (means g e, rest none)
+
+or_false : (t : Bool) → (not t && not false) ≡ false → t ≡ true
+or_false true e = refl
+or_false false e = absurd (false≢true (sym e))
+
+pub next_merge-none : (cut : List Range) → IsCut cut → next_merge_of cut [] ≡ None → cut ≡ canon (end_of cut)
+unfolding next_merge_of is_to_merge
+next_merge-none cut chain none =
+    canon_of_all cut chain (find_all (is_to_merge cut []) cut (canon (end_of cut)) (λ g. or_false (contains_range cut g)) none)
+
+HasAll-more : (r : Range) (cut gs : List Range) → HasAll cut gs → HasAll (r ∷ cut) gs
+HasAll-more r cut [] all = tt
+HasAll-more r cut (g ∷ gs) all = (by (same_range r g), HasAll-more r cut gs all.1)
+  where
+    by : (t : Bool) → (t || contains_range cut g) ≡ true
+    by true = refl
+    by false = all.0
+
+HasAll-itself : (gs : List Range) → HasAll gs gs
+HasAll-itself [] = tt
+HasAll-itself (g ∷ gs) = (ap (λ t. t || contains_range gs g) (same_range-itself g), HasAll-more g gs gs (HasAll-itself gs))
+
+find_none : (cut busy gs : List Range) → HasAll cut gs → find (is_to_merge cut busy) gs ≡ None
+unfolding is_to_merge
+find_none cut busy [] all = refl
+find_none cut busy (g ∷ gs) all =
+    ap (λ t. cond (not t && not (meets_any busy g)) (Some g) (find (is_to_merge cut busy) gs)) all.0 ∙ find_none cut busy gs all.1
+
+pub next_merge-canon : (cut busy : List Range) → cut ≡ canon (end_of cut) → next_merge_of cut busy ≡ None
+unfolding next_merge_of
+next_merge-canon cut busy same =
+    find_none cut busy (canon (end_of cut)) (subst (λ l. HasAll l (canon (end_of cut))) (sym same) (HasAll-itself (canon (end_of cut))))
+
+-- a range that was found is in the list and passes
+record IsFound (p : Range → Bool) (gs : List Range) (g : Range) : Type 0 where
+  among : contains_range gs g ≡ true
+  passes : p g ≡ true
+
+found : (p : Range → Bool) (gs : List Range) (g : Range) → find p gs ≡ Some g → IsFound p gs g
+found p [] g e = absurd (none_is g e)
+  where
+    none_is : (g : Range) → ◌≡◌ {A = Option Range} None (Some g) → ⊥
+    none_is g e = cc
+found p (x ∷ xs) g e = by (p x) refl e (found p xs g)
+  where
+    later : (t : Bool) → contains_range xs g ≡ true → (t || contains_range xs g) ≡ true
+    later true any = refl
+    later false any = any
+
+    by : (t : Bool) → p x ≡ t → cond t (Some x) (find p xs) ≡ Some g → (find p xs ≡ Some g → IsFound p xs g) → IsFound p (x ∷ xs) g
+    by true ex e rest =
+        let same : x ≡ g = cc in
+        record { among = ap (λ t. t || contains_range xs g) (ap (λ q. same_range q g) same ∙ same_range-itself g); passes = ap p (sym same) ∙ ex }
+    by false ex e rest = let r = rest e in record { among = later (same_range x g) r.among; passes = r.passes }
+
+first_not : (s t : Bool) → (not s && not t) ≡ true → s ≡ false
+first_not true t e = absurd (false≢true e)
+first_not false t e = refl
+
+second_not : (s t : Bool) → (not s && not t) ≡ true → t ≡ false
+second_not true t e = absurd (false≢true e)
+second_not false true e = absurd (false≢true e)
+second_not false false e = refl
+
+-- what is to be merged is the union of at least two ranges of the cut, and meets nothing busy
+pub next_merge-union : (cut busy : List Range) (g : Range) → IsCut cut → next_merge_of cut busy ≡ Some g → IsUnionIn cut g
+unfolding next_merge_of is_to_merge
+next_merge-union cut busy g chain e =
+    let f = found (is_to_merge cut busy) (canon (end_of cut)) g e in
+    union_of_two cut g chain f.among (first_not (contains_range cut g) (meets_any busy g) f.passes)
+
+pub next_merge-free : (cut busy : List Range) (g : Range) → next_merge_of cut busy ≡ Some g → meets_any busy g ≡ false
+unfolding next_merge_of is_to_merge
+next_merge-free cut busy g e =
+    let f = found (is_to_merge cut busy) (canon (end_of cut)) g e in
+    second_not (contains_range cut g) (meets_any busy g) f.passes
+
+module _ (cut busy : List Range) (answer : Option Range) (chain : IsCut cut) (exact : answer ≡ next_merge_of cut busy) where
+  pub answer-union : IfSome answer (IsUnionIn cut)
+  answer-union = by answer exact
+    where
+      by : (o : Option Range) → o ≡ next_merge_of cut busy → IfSome o (IsUnionIn cut)
+      by None e = tt
+      by (Some g) e = next_merge-union cut busy g chain (sym e)
+
+  -- with nothing busy, nothing is to be merged exactly where the cut is canonical
+  pub answer-settled : busy ≡ [] → (answer ≡ None) ↔ (cut ≡ canon (end_of cut))
+  answer-settled idle =
+      (λ none. next_merge-none cut chain (sym (exact ∙ ap (next_merge_of cut) idle) ∙ none), λ same. exact ∙ next_merge-canon cut busy same)

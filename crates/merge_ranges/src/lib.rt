@@ -3,4 +3,4 @@
 
 mod cut;
 
-pub use cut::{Cut, Group, canon_cut};
+pub use cut::{Cut, Group, canon_cut, canon_laws, next_merge};
