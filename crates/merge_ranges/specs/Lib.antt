@@ -1,3 +1,5 @@
 pub mod Cut
 pub mod CutLaws
+pub mod Kind
+pub mod Name
 pub mod Sizes

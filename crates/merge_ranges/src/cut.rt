@@ -1,7 +1,7 @@
 ghost use Rattle.std.specs.Prelude.{◌≡◌, ℕ, ◌<◌, ◌≤◌, ◌↔◌, ◌+◌, ◌%◌, ◌==◌, ◌&&◌, nat_le, List, [], true, false, None, IfOk, IfSome};
 ghost use Rattle.agg_model.specs.declared.entity.Range.{Range};
 ghost use Rattle.merge_ranges.specs.CutLaws.{HasAll, IsUnionIn};
-ghost use Rattle.merge_ranges.specs.Cut.{IsCut, size_at, canon, end_of, is_to_merge, next_merge_of, contains_range, meets_any};
+ghost use Rattle.merge_ranges.specs.Cut.{IsCut, is_size, is_aligned, size_at, canon, end_of, is_to_merge, next_merge_of, contains_range, meets_any};
 
 use agg_model::{Entity, Range};
 use agg_outside::{ListOf, Memory};
@@ -42,6 +42,25 @@ fn longest(from: u64, end: u64) -> u64
         }
     }
     1
+}
+
+fn is_length(n: u64) -> bool
+    ensures { result ≡ is_size n }
+{
+    matches!(n, 1 | 2 | 4 | 8 | 16 | 32 | 64)
+}
+
+/// Whether the number of steps is a power of two that is at most 64 and divides the first step, and
+/// no step is above 4,095.
+#[tactic(auto, unfolding(crate::specs::Cut::is_aligned))]
+pub fn is_aligned_range(range: Range) -> bool
+    ensures { result ≡ is_aligned range }
+{
+    if range.to <= range.from || range.to > 4096 {
+        return false;
+    }
+    let length = range.to - range.from;
+    is_length(length) && range.from % length == 0
 }
 
 /// The cut of the steps below `m` that takes, from the left, always the longest aligned range that

@@ -2,5 +2,9 @@
 #![tactic(auto)]
 
 mod cut;
+mod kind;
+mod name;
+mod text;
 
 pub use cut::{Cut, Group, canon_cut, canon_laws, next_merge};
+pub use name::{DiskName, FileName};
