@@ -3,3 +3,5 @@ pub mod CutLaws
 pub mod Kind
 pub mod Name
 pub mod Sizes
+pub mod NameLaws
+pub mod CanonicalNames

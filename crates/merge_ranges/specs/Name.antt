@@ -1,7 +1,8 @@
 -- The names of files: `v1-ENTITY.FROM-TO.ENDING`, and the same followed by `.tmp` while a file is written.
-use Rattle.std.specs.Prelude.{ℕ, Bool, true, false, ◌&&◌, ◌||◌, List, [], ◌∷◌, ◌++◌, codes, decimal, if◌then◌else◌}
+use Rattle.std.specs.Prelude.{ℕ, Bool, true, false, ◌&&◌, ◌||◌, List, [], ◌∷◌, ◌++◌, codes, decimal, if◌then◌else◌, Option, Some, None}
 use Rattle.agg_model.specs.Entity.{entity_name, is_domain_entity}
 use Rattle.agg_model.specs.declared.entity.Entity.{Entity}
+use Rattle.agg_model.specs.declared.entity.Range.{Range}
 use Rattle.agg_model.specs.declared.entity.FileKind.{FileKind}
 use Rattle.agg_model.specs.declared.entity.FileKind.TheVariants.{Kv, Bt, Kvi, V, Vi, Ef, Efi}
 use Rattle.merge_ranges.specs.declared.name.FileName.{FileName}
@@ -26,3 +27,11 @@ spelled n =
 -- the bytes of a name on the disk
 unfoldable pub spelled_on_disk : DiskName → List ℕ
 spelled_on_disk n = if n.temp then spelled n.name ++ codes ".tmp" else spelled n.name
+
+-- what follows the entity's name and a dot: the range and the ending
+abbrev pub range_and_kind : Range → FileKind → List ℕ
+range_and_kind r k = decimal r.from ++ 45 ∷ (decimal r.to ++ 46 ∷ ending k)
+
+abbrev pub on_disk_of : Option FileName → Bool → Option DiskName
+on_disk_of None temp = None
+on_disk_of (Some n) temp = Some (record { name = n; temp = temp })
