@@ -1,11 +1,16 @@
 -- Names from their parts, and names on the disk.
 use Rattle.std.specs.Prelude.{IfSome, codes}
-use Rattle.std.proofs.Common.{◌≡◌, ℕ, Bool, true, false, List, [], ◌∷◌, ◌++◌, Option, Some, None, sym, ◌∙◌, ap}
-use Rattle.agg_model.specs.Entity.{entity_name}
+use Rattle.std.proofs.Common.{◌≡◌, ℕ, ◌^◌, ◌<◌, drop, arith, Bool, true, false, List, [], ◌∷◌, ◌++◌, Option, Some, None, sym, ◌∙◌, ap}
+use Rattle.agg_model.specs.Entity.{entity_name, entity_name-injective}
 use Rattle.merge_ranges.specs.declared.name.FileName.{FileName}
 use Rattle.merge_ranges.specs.declared.name.DiskName.{DiskName}
 use Rattle.merge_ranges.specs.Name.{is_name, spelled, spelled_on_disk, on_disk_of, range_and_kind}
-use Rattle.merge_ranges.specs.NameLaws.{spelled-parts, not_temporary}
+use Rattle.std.specs.Prelude.{decimal}
+use Rattle.std.specs.Str.Parse.{digits_value}
+use Rattle.std.proofs.lemmas.Fmt.{decimal_is_IsNumeral}
+use Rattle.merge_ranges.specs.Kind.{ending-injective}
+use Rattle.merge_ranges.proofs.Texts.{one_cut}
+use Rattle.merge_ranges.specs.NameLaws.{spelled-parts, not_temporary, entity_name-without, decimal-without, from_small, to_small}
 
 pub joined : (text rest entity tail : List ℕ) (o : Option FileName) → text ≡ codes "v1-" ++ rest → rest ≡ entity ++ 46 ∷ tail
     → IfSome o (λ n. entity_name n.entity ≡ entity) → IfSome o (λ n. range_and_kind n.range n.kind ≡ tail) → IfSome o (λ n. spelled n ≡ text)
@@ -47,3 +52,27 @@ pub lasting-text : (text : List ℕ) (o : Option FileName) → IfSome o (λ n. s
 unfolding spelled_on_disk
 lasting-text text None same = tt
 lasting-text text (Some n) same = same
+
+decimal-injective : (a b : ℕ) → a < 2 ^ 64 → b < 2 ^ 64 → decimal a ≡ decimal b → a ≡ b
+decimal-injective a b small_a small_b same =
+    sym (decimal_is_IsNumeral a small_a).1 ∙ ap (digits_value 10) same ∙ (decimal_is_IsNumeral b small_b).1
+
+dash_low : 45 < 48
+dash_low = omega arith
+
+dot_low : 46 < 48
+dot_low = omega arith
+
+-- no two names of the grammar are spelled alike
+pub spelled-injective : (n o : FileName) → is_name n ≡ true → is_name o ≡ true → spelled n ≡ spelled o → n ≡ o
+spelled-injective n o is_n is_o same =
+    let whole : codes "v1-" ++ (entity_name n.entity ++ 46 ∷ range_and_kind n.range n.kind) ≡ codes "v1-" ++ (entity_name o.entity ++ 46 ∷ range_and_kind o.range o.kind) =
+        sym (spelled-parts n) ∙ same ∙ spelled-parts o in
+    let first = one_cut 46 _ _ _ _ (entity_name-without n.entity) (entity_name-without o.entity) (ap (drop 3) whole) in
+    let second = one_cut 45 _ _ _ _ (decimal-without n.range.from 45 (from_small n is_n) dash_low) (decimal-without o.range.from 45 (from_small o is_o) dash_low) first.1 in
+    let third = one_cut 46 _ _ _ _ (decimal-without n.range.to 46 (to_small n is_n) dot_low) (decimal-without o.range.to 46 (to_small o is_o) dot_low) second.1 in
+    let entity = entity_name-injective n.entity o.entity first.0 in
+    let from = decimal-injective n.range.from o.range.from (from_small n is_n) (from_small o is_o) second.0 in
+    let to = decimal-injective n.range.to o.range.to (to_small n is_n) (to_small o is_o) third.0 in
+    let kind = ending-injective n.kind o.kind third.1 in
+    λ i. record { entity = entity i; range = record { from = from i; to = to i }; kind = kind i }

@@ -80,3 +80,14 @@ module _ (text front back : List ℕ) (mark : ℕ) (without : All (λ b. b ≢ m
   parts_are i is none =
       let at = mark_first i is none in
       (front_is i at, rest_is i ∙ back_is i at)
+
+-- a text is cut at its first mark in one way
+pub one_cut : (mark : ℕ) (front back other last : List ℕ) → All (λ b. b ≢ mark) front → All (λ b. b ≢ mark) other → front ++ mark ∷ back ≡ other ++ mark ∷ last → (front ≡ other) × (back ≡ last)
+one_cut mark front back other last without_front without_other same =
+    let text = front ++ mark ∷ back in
+    let there = mark_there text other last mark without_other same in
+    let none = λ (k : ℕ) (h : k < length other) (is : get_or text k 0 ≡ mark).
+        without_other k 0 h (sym (ap (λ l. get_or l k 0) same ∙ get_or-append other (mark ∷ last) 0 k h) ∙ is) in
+    let one = parts_are text front back mark without_front refl (length other) there none in
+    let two = parts_are text other last mark without_other same (length other) there none in
+    (sym one.0 ∙ two.0, sym one.1 ∙ two.1)

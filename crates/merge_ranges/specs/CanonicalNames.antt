@@ -1,6 +1,6 @@
 -- The order of names, and the names of all files over the canonical cut.
 use Rattle.std.specs.Prelude.{◌≡◌, ℕ, ◌+◌, ◌*◌, true, false, ◌||◌, List, [], ◌∷◌, ◌++◌, filter, map, length, refl}
-use Rattle.std.proofs.Common.{arith, sym, ◌∙◌, ap, length-append, length-map}
+use Rattle.std.proofs.Common.{arith, sym, ◌∙◌, ap, length-append}
 use Rattle.std.specs.declared.cmp.Ordering.{Ordering}
 use Rattle.std.specs.Ordering.{nat_cmp, ordering_then}
 use Rattle.agg_model.specs.Entity.{entity_number, is_domain_entity}
@@ -50,12 +50,16 @@ canonical_names m = names_over (canon m)
 
 -- ---- how many there are
 
+long : (e : Entity) (r : Range) (ks : List FileKind) → length (map (λ k. let n : FileName = record { entity = e; range = r; kind = k } in n) ks) ≡ length ks
+long e r [] = refl
+long e r (k ∷ ks) = omega (arith, long e r ks)
+
 length-entity_names : (e : Entity) (rs : List Range) → length (entity_names e rs) ≡ length rs * length (filter (has_kind e) kinds)
 length-entity_names e [] = omega arith
 length-entity_names e (r ∷ rs) =
     omega
     (arith, length-append (group_names e r) (entity_names e rs),
-        length-map (λ k. record { entity = e; range = r; kind = k }) (filter (has_kind e) kinds), length-entity_names e rs)
+        long e r (filter (has_kind e) kinds), length-entity_names e rs)
 
 kinds_of_domain : (e : Entity) → is_domain_entity e ≡ true → length (filter (has_kind e) kinds) ≡ 7
 unfolding has_kind

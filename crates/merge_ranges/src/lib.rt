@@ -7,4 +7,7 @@ mod name;
 mod text;
 
 pub use cut::{Cut, Group, canon_cut, canon_laws, next_merge};
-pub use name::{DiskName, FileName};
+pub use name::{DiskName, FileName, name_laws};
+
+#[cfg(test)]
+mod tests;

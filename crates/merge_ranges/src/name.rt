@@ -1,9 +1,10 @@
-ghost use Rattle.std.specs.Prelude.{◌≡◌, ◌++◌, ◌<◌, ◌^◌, IsTrue, IfOk, IfSome, OnOk, OnErr, Some, decimal};
+ghost use Rattle.std.specs.Prelude.{◌≡◌, ◌*◌, ◌++◌, List, length, ◌<◌, ◌^◌, IsTrue, IfOk, IfSome, OnOk, OnErr, Some, decimal};
 ghost use Rattle.agg_model.specs.declared.entity.Entity.{Entity};
 ghost use Rattle.agg_model.specs.declared.entity.Range.{Range};
 ghost use Rattle.agg_model.specs.declared.entity.FileKind.{FileKind};
 ghost use Rattle.merge_ranges.specs.Cut.{is_size, is_aligned};
 ghost use Rattle.agg_model.specs.Entity.{entity_name};
+ghost use Rattle.merge_ranges.specs.CanonicalNames.{names_over};
 ghost use Rattle.merge_ranges.specs.Kind.{ending};
 ghost use Rattle.merge_ranges.specs.Name.{has_kind, is_name, spelled, spelled_on_disk, on_disk_of, range_and_kind};
 ghost use Rattle.merge_ranges.specs.declared.name.FileName.{FileName};
@@ -189,3 +190,9 @@ impl DiskName {
         Ok(Bytes::from_vec(text))
     }
 }
+
+/// What holds of all names.
+pub fn name_laws()
+    ensures apart { (n o : FileName) → IsTrue (is_name n) → IsTrue (is_name o) → spelled n ≡ spelled o → n ≡ o }
+    ensures count { (ranges : List Range) → length (names_over ranges) ≡ 29 * length ranges }
+{}
