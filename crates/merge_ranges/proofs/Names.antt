@@ -1,6 +1,6 @@
 -- Names from their parts, and names on the disk.
 use Rattle.std.specs.Prelude.{IfSome, codes}
-use Rattle.std.proofs.Common.{◌≡◌, ℕ, ◌^◌, ◌<◌, drop, arith, Bool, true, false, List, [], ◌∷◌, ◌++◌, Option, Some, None, sym, ◌∙◌, ap}
+use Rattle.std.proofs.Common.{◌≡◌, ℕ, ◌^◌, ◌<◌, drop, arith, Bool, true, false, List, ◌∷◌, ◌++◌, Option, Some, None, sym, ◌∙◌, ap}
 use Rattle.agg_model.specs.Entity.{entity_name, entity_name-injective}
 use Rattle.merge_ranges.specs.declared.name.FileName.{FileName}
 use Rattle.merge_ranges.specs.declared.name.DiskName.{DiskName}
@@ -67,7 +67,7 @@ dot_low = omega arith
 pub spelled-injective : (n o : FileName) → is_name n ≡ true → is_name o ≡ true → spelled n ≡ spelled o → n ≡ o
 spelled-injective n o is_n is_o same =
     let whole : codes "v1-" ++ (entity_name n.entity ++ 46 ∷ range_and_kind n.range n.kind) ≡ codes "v1-" ++ (entity_name o.entity ++ 46 ∷ range_and_kind o.range o.kind) =
-        sym (spelled-parts n) ∙ same ∙ spelled-parts o in
+    sym (spelled-parts n) ∙ same ∙ spelled-parts o in
     let first = one_cut 46 _ _ _ _ (entity_name-without n.entity) (entity_name-without o.entity) (ap (drop 3) whole) in
     let second = one_cut 45 _ _ _ _ (decimal-without n.range.from 45 (from_small n is_n) dash_low) (decimal-without o.range.from 45 (from_small o is_o) dash_low) first.1 in
     let third = one_cut 46 _ _ _ _ (decimal-without n.range.to 46 (to_small n is_n) dot_low) (decimal-without o.range.to 46 (to_small o is_o) dot_low) second.1 in

@@ -1,7 +1,7 @@
 -- Texts taken apart at their beginning, at their end, and at a byte.
 use Rattle.std.specs.Prelude.{MatchOption, IfSome, IsSomeAnd, All}
 use Rattle.std.specs.Borrow.{Bor}
-use Rattle.std.proofs.Common.{◌≡◌, ◌≢◌, ℕ, ◌+◌, ◌-◌, ◌<◌, ◌≤◌, Bool, true, false, nat_eq, nat_lt, List, [], ◌∷◌, ◌++◌, Option, Some, None, length, get_or, take, drop, refl, sym, ◌∙◌, ap, subst, arith, add-one, length-append, length-drop, ltb-true, ltb-false}
+use Rattle.std.proofs.Common.{◌≡◌, ◌≢◌, ℕ, ◌+◌, ◌-◌, ◌<◌, ◌≤◌, Bool, true, false, nat_eq, nat_lt, List, ◌∷◌, ◌++◌, Option, Some, None, length, get_or, take, drop, refl, sym, ◌∙◌, ap, arith, length-append, length-drop, ltb-true, ltb-false}
 use Rattle.std.proofs.lemmas.Bool.{false≢true}
 use Rattle.std.proofs.lemmas.List.{take-append-drop, take_all}
 use Rattle.std.proofs.Math.Seq.{take-append_seam, drop-append_seam, drop-append-add, get_or-append_seam}
@@ -11,7 +11,7 @@ use Rattle.std.specs.Cmp.Lexicographic.{pointwise, bytes_decides}
 abbrev IsAfter : List ℕ → List ℕ → Option (Bor (List ℕ)) → Type 0
 IsAfter text first o =
     MatchOption o (pointwise nat_eq (take (length first) text) first ≡ false) (λ x.
-        (pointwise nat_eq (take (length first) text) first ≡ true) × (x.now ≡ drop (length first) text) × (length x.now + length first ≡ length text))
+    (pointwise nat_eq (take (length first) text) first ≡ true) × (x.now ≡ drop (length first) text) × (length x.now + length first ≡ length text))
 
 pub after-found : (text first : List ℕ) (o : Option (Bor (List ℕ))) → IsAfter text first o → IfSome o (λ rest. text ≡ first ++ rest.now)
 after-found text first None h = tt
@@ -26,7 +26,7 @@ after-only text first (Some x) h rest same = h.1 ∙ ap (drop (length first)) sa
 abbrev IsBefore : List ℕ → List ℕ → Option (Bor (List ℕ)) → Type 0
 IsBefore text last o =
     MatchOption o (pointwise nat_eq (drop (length text - length last) text) last ≡ false) (λ x.
-        (pointwise nat_eq (drop (length text - length last) text) last ≡ true) × (x.now ≡ take (length text - length last) text) × (length x.now + length last ≡ length text))
+    (pointwise nat_eq (drop (length text - length last) text) last ≡ true) × (x.now ≡ take (length text - length last) text) × (length x.now + length last ≡ length text))
 
 pub before-found : (text last : List ℕ) (o : Option (Bor (List ℕ))) → IsBefore text last o → IfSome o (λ front. text ≡ front.now ++ last)
 before-found text last None h = tt
@@ -40,7 +40,7 @@ front_length text front last same = let long : length text ≡ length front + le
 pub before-only : (text last : List ℕ) (o : Option (Bor (List ℕ))) → IsBefore text last o → (front : List ℕ) → text ≡ front ++ last → IsSomeAnd o (λ r. r.now ≡ front)
 before-only text last None h front same =
     let tail : drop (length text - length last) text ≡ last =
-        (λ i. drop (front_length text front last same i) (same i)) ∙ drop-append_seam front last in
+    (λ i. drop (front_length text front last same i) (same i)) ∙ drop-append_seam front last in
     absurd (false≢true (sym h ∙ (bytes_decides (drop (length text - length last) text) last).1 tail))
 before-only text last (Some x) h front same =
     h.1 ∙ (λ i. take (front_length text front last same i) (same i)) ∙ take-append_seam front last
@@ -87,7 +87,7 @@ one_cut mark front back other last without_front without_other same =
     let text = front ++ mark ∷ back in
     let there = mark_there text other last mark without_other same in
     let none = λ (k : ℕ) (h : k < length other) (is : get_or text k 0 ≡ mark).
-        without_other k 0 h (sym (ap (λ l. get_or l k 0) same ∙ get_or-append other (mark ∷ last) 0 k h) ∙ is) in
+    without_other k 0 h (sym (ap (λ l. get_or l k 0) same ∙ get_or-append other (mark ∷ last) 0 k h) ∙ is) in
     let one = parts_are text front back mark without_front refl (length other) there none in
     let two = parts_are text other last mark without_other same (length other) there none in
     (sym one.0 ∙ two.0, sym one.1 ∙ two.1)

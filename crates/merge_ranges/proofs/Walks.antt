@@ -1,5 +1,5 @@
 -- What a walk over sizes, or over the ranges of the canonical cut, still has before it.
-use Rattle.std.proofs.Common.{◌≡◌, ℕ, suc, ◌+◌, ◌%◌, ◌≤◌, ◌<◌, Bool, true, false, cond, ◌==◌, ◌&&◌, nat_lt, nat_le, List, [], ◌∷◌, ◌++◌, Option, Some, None, find, length, get_or, drop, refl, sym, ◌∙◌, ap, arith, add-one, drop-cons, lt-ltb, append_assoc}
+use Rattle.std.proofs.Common.{◌≡◌, ℕ, suc, ◌+◌, ◌%◌, ◌<◌, Bool, true, false, cond, ◌==◌, ◌&&◌, nat_le, List, [], ◌∷◌, ◌++◌, Some, find, length, get_or, drop, sym, ◌∙◌, ap, add-one, drop-cons, lt-ltb, append_assoc}
 use Rattle.agg_model.specs.declared.entity.Range.{Range}
 use Rattle.merge_ranges.specs.Cut.{first_fit, size_at, largest_at, canon_from}
 

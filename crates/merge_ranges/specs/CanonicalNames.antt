@@ -1,6 +1,6 @@
 -- The order of names, and the names of all files over the canonical cut.
-use Rattle.std.specs.Prelude.{◌≡◌, ℕ, ◌+◌, ◌*◌, true, false, ◌||◌, List, [], ◌∷◌, ◌++◌, filter, map, length, refl}
-use Rattle.std.proofs.Common.{arith, sym, ◌∙◌, ap, length-append}
+use Rattle.std.specs.Prelude.{◌≡◌, ℕ, ◌*◌, true, false, ◌||◌, List, [], ◌∷◌, ◌++◌, filter, map, length, refl}
+use Rattle.std.proofs.Common.{arith, ◌∙◌, ap, length-append}
 use Rattle.std.specs.declared.cmp.Ordering.{Ordering}
 use Rattle.std.specs.Ordering.{nat_cmp, ordering_then}
 use Rattle.agg_model.specs.Entity.{entity_number, is_domain_entity}
@@ -57,9 +57,12 @@ long e r (k ∷ ks) = omega (arith, long e r ks)
 length-entity_names : (e : Entity) (rs : List Range) → length (entity_names e rs) ≡ length rs * length (filter (has_kind e) kinds)
 length-entity_names e [] = omega arith
 length-entity_names e (r ∷ rs) =
-    omega
-    (arith, length-append (group_names e r) (entity_names e rs),
-        long e r (filter (has_kind e) kinds), length-entity_names e rs)
+    omega (
+      arith,
+      length-append (group_names e r) (entity_names e rs),
+      long e r (filter (has_kind e) kinds),
+      length-entity_names e rs,
+    )
 
 kinds_of_domain : (e : Entity) → is_domain_entity e ≡ true → length (filter (has_kind e) kinds) ≡ 7
 unfolding has_kind
@@ -80,12 +83,20 @@ pub length-names_over : (rs : List Range) → length (names_over rs) ≡ 29 * le
 unfolding is_domain_entity
 length-names_over rs =
     let n = λ (es : List Entity). names_of es rs in
-    omega
-    (arith, length-append (entity_names Accounts rs) (n (Storage ∷ Code ∷ LogAddrs ∷ LogTopics ∷ TracesFrom ∷ TracesTo ∷ [])),
-        length-append (entity_names Storage rs) (n (Code ∷ LogAddrs ∷ LogTopics ∷ TracesFrom ∷ TracesTo ∷ [])),
-        length-append (entity_names Code rs) (n (LogAddrs ∷ LogTopics ∷ TracesFrom ∷ TracesTo ∷ [])),
-        length-append (entity_names LogAddrs rs) (n (LogTopics ∷ TracesFrom ∷ TracesTo ∷ [])),
-        length-append (entity_names LogTopics rs) (n (TracesFrom ∷ TracesTo ∷ [])),
-        length-append (entity_names TracesFrom rs) (n (TracesTo ∷ [])), length-append (entity_names TracesTo rs) [],
-        domain_names Accounts rs refl, domain_names Storage rs refl, domain_names Code rs refl, index_names LogAddrs rs refl,
-        index_names LogTopics rs refl, index_names TracesFrom rs refl, index_names TracesTo rs refl)
+    omega (
+      arith,
+      length-append (entity_names Accounts rs) (n (Storage ∷ Code ∷ LogAddrs ∷ LogTopics ∷ TracesFrom ∷ TracesTo ∷ [])),
+      length-append (entity_names Storage rs) (n (Code ∷ LogAddrs ∷ LogTopics ∷ TracesFrom ∷ TracesTo ∷ [])),
+      length-append (entity_names Code rs) (n (LogAddrs ∷ LogTopics ∷ TracesFrom ∷ TracesTo ∷ [])),
+      length-append (entity_names LogAddrs rs) (n (LogTopics ∷ TracesFrom ∷ TracesTo ∷ [])),
+      length-append (entity_names LogTopics rs) (n (TracesFrom ∷ TracesTo ∷ [])),
+      length-append (entity_names TracesFrom rs) (n (TracesTo ∷ [])),
+      length-append (entity_names TracesTo rs) [],
+      domain_names Accounts rs refl,
+      domain_names Storage rs refl,
+      domain_names Code rs refl,
+      index_names LogAddrs rs refl,
+      index_names LogTopics rs refl,
+      index_names TracesFrom rs refl,
+      index_names TracesTo rs refl,
+    )

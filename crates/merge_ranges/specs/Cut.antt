@@ -1,5 +1,5 @@
 -- Cuts of the steps into aligned ranges, the canonical cut, and what is to be merged next.
-use Rattle.std.specs.Prelude.{◌≡◌, ℕ, zero, suc, ◌+◌, ◌-◌, ◌%◌, ◌≤◌, Bool, not, ◌==◌, ◌&&◌, nat_lt, nat_le, List, [], ◌∷◌, if◌then◌else◌, Option, IsTrue, find}
+use Rattle.std.specs.Prelude.{◌≡◌, ℕ, zero, suc, ◌+◌, ◌-◌, ◌%◌, Bool, not, ◌==◌, ◌&&◌, nat_lt, nat_le, List, [], ◌∷◌, if◌then◌else◌, Option, IsTrue, find}
 use Rattle.std.specs.List.{list_any}
 use Rattle.agg_model.specs.declared.entity.Range.{Range}
 

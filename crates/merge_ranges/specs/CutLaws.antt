@@ -1,12 +1,12 @@
 -- Laws of cuts: the canonical cut is one, and its ranges are unions of the ranges of each cut with its end.
-use Rattle.std.specs.Prelude.{◌≡◌, ◌≢◌, ℕ, zero, suc, ◌+◌, ◌-◌, ◌%◌, ◌≤◌, ◌<◌, Bool, true, false, cond, not, ◌==◌, ◌&&◌, ◌||◌, nat_lt, nat_le, List, [], ◌∷◌, ◌++◌, length, find, Option, Some, None, IfSome, ◌↔◌, refl}
+use Rattle.std.specs.Prelude.{◌≡◌, ℕ, zero, suc, ◌+◌, ◌-◌, ◌%◌, ◌≤◌, ◌<◌, Bool, true, false, cond, not, ◌==◌, ◌&&◌, ◌||◌, nat_lt, nat_le, List, [], ◌∷◌, ◌++◌, length, find, Option, Some, None, IfSome, ◌↔◌, refl}
 use Rattle.std.proofs.Common.{sym, ◌∙◌, ap, subst, arith, eqb-true, eq-eqb, ltb-true, ltb-false, append_assoc}
 use Rattle.std.proofs.lemmas.Bool.{false≢true, leb-true, le-leb}
 use Rattle.std.specs.Cmp.{first_so, second_so}
 use Rattle.std.specs.List.{list_any}
 use Rattle.agg_model.specs.declared.entity.Range.{Range}
 use Rattle.merge_ranges.specs.Cut.{is_size, is_aligned, IsCutFrom, IsCut, end_from, end_of, size_at, largest_at, canon_from, canon, same_range, contains_range, meets_any, is_to_merge, next_merge_of}
-use Rattle.merge_ranges.specs.Sizes.{FitsAt, size_at-fits, size_above_zero, stays_within}
+use Rattle.merge_ranges.specs.Sizes.{size_at-fits, size_above_zero, stays_within}
 
 -- ---- aligned ranges
 
@@ -89,8 +89,8 @@ pub end_from-canon_from : (most a m : ℕ) → a ≤ m → m ≤ a + most → en
 end_from-canon_from zero a m h over = omega arith
 end_from-canon_from (suc most) a m h over =
     end_from-canon_from-by most a m (nat_lt a m) refl h (λ below.
-        let at = size_at-fits a m below in
-        end_from-canon_from most (a + size_at a m) m at.within (next_most a m most (size_at a m) (positive_at a m below) over))
+    let at = size_at-fits a m below in
+    end_from-canon_from most (a + size_at a m) m at.within (next_most a m most (size_at a m) (positive_at a m below) over))
 
 none_left : (t : Bool) (m a : ℕ) (rest : List Range) → nat_lt a m ≡ t → m ≤ a → [] ≡ cond t (largest_at a m ∷ rest) []
 none_left true m a rest e over = absurd (let below : a < m = ltb-true a m e in omega arith)
@@ -107,9 +107,9 @@ canon_from-most zero (suc k) a m hn hk = none_left (nat_lt a m) m a (canon_from 
 canon_from-most (suc n) zero a m hn hk = sym (none_left (nat_lt a m) m a (canon_from n (a + size_at a m) m) refl (omega arith))
 canon_from-most (suc n) (suc k) a m hn hk =
     canon_from-most-by n k a m (nat_lt a m) refl (λ below.
-        canon_from-most n k (a + size_at a m) m
-        (next_most a m n (size_at a m) (positive_at a m below) hn)
-        (next_most a m k (size_at a m) (positive_at a m below) hk))
+    canon_from-most n k (a + size_at a m) m
+    (next_most a m n (size_at a m) (positive_at a m below) hn)
+    (next_most a m k (size_at a m) (positive_at a m below) hk))
 
 -- the canonical cut is a cut of the steps below m
 pub canon-IsCut : (m : ℕ) → m ≤ 4096 → IsCut (canon m)
@@ -206,18 +206,18 @@ module _ (a m : ℕ) (below : a < m) where
   part : (b : ℕ) (cut : List Range) → a ≤ b → b ≤ a + size_at a m → IsCutFrom b cut → end_from b cut ≡ m → IsPart b (a + size_at a m) m cut
   part b [] low high chain last =
       part-by b [] (nat_lt b (a + size_at a m)) refl low high chain last (λ inside.
-          let at = size_at-fits a m below in
-          let within : a + size_at a m ≤ m = at.within in
-          absurd (omega arith))
+      let at = size_at-fits a m below in
+      let within : a + size_at a m ≤ m = at.within in
+      absurd (omega arith))
   part b (r ∷ rs) low high chain last =
       part-by b (r ∷ rs) (nat_lt b (a + size_at a m)) refl low high chain last (λ inside.
-          let al = aligned_from r chain.1 in
-          let starts : r.from ≡ b = chain.0 in
-          let some : r.from < r.to = al.some in
-          let long : r.from + (r.to - r.from) ≡ r.to = al.long in
-          let up : r.to ≤ m = subst (λ z. r.to ≤ z) last (end_from-above r.to rs chain.2) in
-          let stays = stays_within a m r.from (r.to - r.from) below al.is al.rem (omega arith) (omega arith) (omega arith) in
-          longer b r rs starts chain.1 (part r.to rs (omega arith) (omega arith) chain.2 last))
+      let al = aligned_from r chain.1 in
+      let starts : r.from ≡ b = chain.0 in
+      let some : r.from < r.to = al.some in
+      let long : r.from + (r.to - r.from) ≡ r.to = al.long in
+      let up : r.to ≤ m = subst (λ z. r.to ≤ z) last (end_from-above r.to rs chain.2) in
+      let stays = stays_within a m r.from (r.to - r.from) below al.is al.rem (omega arith) (omega arith) (omega arith) in
+      longer b r rs starts chain.1 (part r.to rs (omega arith) (omega arith) chain.2 last))
 
 -- of the ranges that fill one that isn't among them, there are at least two
 several-by : (g : Range) (mid rest : List Range) → g.from < g.to → IsCutFrom g.from mid → end_from g.from mid ≡ g.to → contains_range (mid ++ rest) g ≡ false → 2 ≤ length mid
@@ -225,7 +225,7 @@ several-by g [] rest some chain ends none = let same : g.from ≡ g.to = ends in
 several-by g (r ∷ []) rest some chain ends none =
     let same : r ≡ g = λ i. record { from = chain.0 i; to = ends i } in
     let found : (same_range r g || contains_range rest g) ≡ true =
-        ap (λ t. t || contains_range rest g) (ap (λ q. same_range q g) same ∙ same_range-itself g) in
+    ap (λ t. t || contains_range rest g) (ap (λ q. same_range q g) same ∙ same_range-itself g) in
     absurd (false≢true (sym none ∙ found))
 several-by g (r ∷ q ∷ qs) rest some chain ends none = omega arith
 
@@ -337,7 +337,7 @@ module _ (a m most : ℕ) (below : a < m) (small : m ≤ 4096) where
       let to : r.to ≡ a + size_at a m = ap (λ (q : Range). q.to) same in
       let positive = positive_at a m below in
       let later = all_later a (a + size_at a m) r rs (canon_from most (a + size_at a m) m) chain.0 (omega arith)
-              (canon_from-IsCutFrom most (a + size_at a m) m small) all in
+      (canon_from-IsCutFrom most (a + size_at a m) m small) all in
       λ i. same i ∷ more rs (subst (λ z. IsCutFrom z rs) to chain.2) (subst (λ z. end_from z rs ≡ m) to last) later i
 
 no_more : (a : ℕ) (cut : List Range) → IsCutFrom a cut → end_from a cut ≤ a → cut ≡ []
@@ -360,7 +360,7 @@ canon_all : (most a m : ℕ) (cut : List Range) → m ≤ a + most → m ≤ 409
 canon_all zero a m cut h small chain last all = no_more a cut chain (omega arith)
 canon_all (suc most) a m cut h small chain last all =
     canon_all-by most a m cut (nat_lt a m) refl small chain last all (λ below rs.
-        canon_all most (a + size_at a m) m rs (next_most a m most (size_at a m) (positive_at a m below) h) small)
+    canon_all most (a + size_at a m) m rs (next_most a m most (size_at a m) (positive_at a m below) h) small)
 
 pub end_from-within : (a : ℕ) (cut : List Range) → a ≤ 4096 → IsCutFrom a cut → end_from a cut ≤ 4096
 end_from-within a [] h chain = h

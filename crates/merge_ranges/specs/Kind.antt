@@ -65,9 +65,9 @@ kind_ending_in : List ℕ → FileKind
 kind_ending_in text =
     cond (pointwise nat_eq text (ending Kv)) Kv
     (cond (pointwise nat_eq text (ending Bt)) Bt
-        (cond (pointwise nat_eq text (ending Kvi)) Kvi
-            (cond (pointwise nat_eq text (ending V)) V
-                (cond (pointwise nat_eq text (ending Vi)) Vi (cond (pointwise nat_eq text (ending Ef)) Ef Efi)))))
+    (cond (pointwise nat_eq text (ending Kvi)) Kvi
+    (cond (pointwise nat_eq text (ending V)) V
+    (cond (pointwise nat_eq text (ending Vi)) Vi (cond (pointwise nat_eq text (ending Ef)) Ef Efi)))))
 
 kind_ending_in-ending : (k : FileKind) → kind_ending_in (ending k) ≡ k
 unfolding kind_ending_in ending

@@ -1,10 +1,9 @@
 -- The names of files: `v1-ENTITY.FROM-TO.ENDING`, and the same followed by `.tmp` while a file is written.
-use Rattle.std.specs.Prelude.{ℕ, Bool, true, false, ◌&&◌, ◌||◌, List, [], ◌∷◌, ◌++◌, codes, decimal, if◌then◌else◌, Option, Some, None}
+use Rattle.std.specs.Prelude.{ℕ, Bool, ◌&&◌, ◌||◌, List, ◌∷◌, ◌++◌, codes, decimal, if◌then◌else◌, Option, Some, None}
 use Rattle.agg_model.specs.Entity.{entity_name, is_domain_entity}
 use Rattle.agg_model.specs.declared.entity.Entity.{Entity}
 use Rattle.agg_model.specs.declared.entity.Range.{Range}
 use Rattle.agg_model.specs.declared.entity.FileKind.{FileKind}
-use Rattle.agg_model.specs.declared.entity.FileKind.TheVariants.{Kv, Bt, Kvi, V, Vi, Ef, Efi}
 use Rattle.merge_ranges.specs.declared.name.FileName.{FileName}
 use Rattle.merge_ranges.specs.declared.name.DiskName.{DiskName}
 use Rattle.merge_ranges.specs.Kind.{ending, is_index_kind}

@@ -1,6 +1,6 @@
 -- Laws of names: their parts can be told apart.
-use Rattle.std.specs.Prelude.{◌≡◌, ◌≢◌, ℕ, ◌+◌, ◌%◌, ◌/◌, ◌^◌, ◌≤◌, ◌<◌, Bool, true, false, not, ◌==◌, ◌&&◌, cond, List, [], ◌∷◌, ◌++◌, codes, decimal, All, Option, Some, refl}
-use Rattle.std.proofs.Common.{sym, ◌∙◌, ap, subst, arith, append_assoc, eq-eqb}
+use Rattle.std.specs.Prelude.{◌≡◌, ◌≢◌, ℕ, ◌+◌, ◌%◌, ◌^◌, ◌≤◌, ◌<◌, Bool, true, false, not, ◌==◌, List, [], ◌∷◌, ◌++◌, codes, decimal, All, refl}
+use Rattle.std.proofs.Common.{sym, ◌∙◌, ap, arith, append_assoc, eq-eqb}
 use Rattle.std.proofs.lemmas.Bool.{false≢true}
 use Rattle.std.proofs.lemmas.Fmt.{decimal_by_steps}
 use Rattle.std.proofs.lemmas.List.Elements.{All-cons, All-nil, All-append}
@@ -9,15 +9,13 @@ use Rattle.std.specs.List.{list_all}
 use Rattle.agg_model.specs.Entity.{entity_name}
 use Rattle.agg_model.specs.declared.entity.Entity.{Entity}
 use Rattle.agg_model.specs.declared.entity.Entity.TheVariants.{Accounts, Storage, Code, LogAddrs, LogTopics, TracesFrom, TracesTo}
-use Rattle.agg_model.specs.declared.entity.Range.{Range}
 use Rattle.agg_model.specs.declared.entity.FileKind.{FileKind}
 use Rattle.agg_model.specs.declared.entity.FileKind.TheVariants.{Kv, Bt, Kvi, V, Vi, Ef, Efi}
 use Rattle.merge_ranges.specs.declared.name.FileName.{FileName}
-use Rattle.merge_ranges.specs.declared.name.DiskName.{DiskName}
 use Rattle.merge_ranges.specs.Kind.{ending}
 use Rattle.merge_ranges.specs.Cut.{is_aligned}
 use Rattle.merge_ranges.specs.CutLaws.{aligned_from}
-use Rattle.merge_ranges.specs.Name.{is_name, spelled, spelled_on_disk, range_and_kind}
+use Rattle.merge_ranges.specs.Name.{is_name, spelled, range_and_kind}
 
 -- ---- no part has the mark that ends it
 
@@ -110,5 +108,5 @@ pub not_temporary : (n : FileName) (text : List ℕ) → spelled n ≡ text ++ c
 unfolding last_of
 not_temporary n text same =
     let last : last_of 46 (ending n.kind) ≡ 112 =
-        sym (spelled-last n) ∙ ap (last_of 0) same ∙ last_of-append 0 text 46 (116 ∷ 109 ∷ 112 ∷ []) in
+    sym (spelled-last n) ∙ ap (last_of 0) same ∙ last_of-append 0 text 46 (116 ∷ 109 ∷ 112 ∷ []) in
     false≢true (sym (last_of-ending 46 n.kind) ∙ eq-eqb (last_of 46 (ending n.kind)) 112 last)

@@ -1,12 +1,11 @@
 -- Laws of the sizes of aligned ranges: of two, one is inside the other or they share no step.
-use Rattle.std.specs.Prelude.{◌≡◌, ℕ, zero, suc, ◌+◌, ◌-◌, ◌*◌, ◌/◌, ◌%◌, ◌≤◌, ◌<◌, Bool, true, false, cond, ◌==◌, ◌&&◌, ◌||◌, nat_lt, nat_le, List, [], ◌∷◌, refl}
+use Rattle.std.specs.Prelude.{◌≡◌, ℕ, ◌+◌, ◌*◌, ◌/◌, ◌%◌, ◌≤◌, ◌<◌, Bool, true, false, cond, ◌==◌, ◌&&◌, ◌||◌, nat_lt, nat_le, List, [], ◌∷◌, refl}
 use Rattle.std.proofs.Common.{sym, ◌∙◌, ap, subst, arith, eqb-true, eq-eqb, ltb-true, ltb-false}
 use Rattle.std.proofs.lemmas.Bool.{false≢true, le-leb, leb-true}
 use Rattle.std.proofs.Math.Nat.{mod-one, mul-le-mul_left, mul_assoc}
 use Rattle.std.specs.Cmp.{first_so, second_so}
 use Rattle.std.specs.List.{list_any, list_all}
-use Rattle.agg_model.specs.declared.entity.Range.{Range}
-use Rattle.merge_ranges.specs.Cut.{sizes, is_size, is_aligned, first_fit, size_at}
+use Rattle.merge_ranges.specs.Cut.{sizes, is_size, first_fit, size_at}
 
 -- what all of the list pass, one of them passes
 passes-by : (p : ℕ → Bool) (n x : ℕ) (xs : List ℕ) (t : Bool) → (x == n) ≡ t → p x ≡ true → (list_any (λ s. s == n) xs ≡ true → p n ≡ true) → (t || list_any (λ s. s == n) xs) ≡ true → p n ≡ true
@@ -150,8 +149,8 @@ module _ (a m c t : ℕ) (h : a < m) (is : is_size t ≡ true) (rem : c % t ≡ 
   not_larger larger =
       let divides = sizes_divide (size_at a m) t at.is is (let le : size_at a m ≤ t = omega arith in le) in
       let same : c ≡ a = same_start a c low (λ above.
-          let apart : a + size_at a m ≤ c = gap (size_at a m) a c start (multiple_chain c t (size_at a m) here divides) above in
-          absurd (omega arith)) in
+      let apart : a + size_at a m ≤ c = gap (size_at a m) a c start (multiple_chain c t (size_at a m) here divides) above in
+      absurd (omega arith)) in
       let fits : t ≤ size_at a m = size_at-largest a m t is (subst (λ z. z % t ≡ 0) same rem) (subst (λ z. z + t ≤ m) same within) in
       absurd (omega arith)
 

@@ -13,6 +13,7 @@ pub type Cut = ListOf<Range>;
 /// The files of one entity over one range of steps.
 pub trait Group {
     fn entity(&self) -> Entity;
+
     fn range(&self) -> Range;
 }
 

@@ -20,7 +20,9 @@ fn the_largest_range_comes_first(rt: HostRuntime) -> Result<(), Fail> {
     let alloc = rt.alloc();
     assert_eq!(rt; canon_cut(alloc, 0)?.len(), 0);
     let three = canon_cut(alloc, 3)?;
-    assert!(rt; three.as_slice() == [Range { from: 0, to: 2 }, Range { from: 2, to: 3 }].as_slice());
+    assert!(rt;
+        three.as_slice() == [Range { from: 0, to: 2 }, Range { from: 2, to: 3 }].as_slice()
+    );
     let nine = canon_cut(alloc, 9)?;
     assert!(rt; nine.as_slice() == [Range { from: 0, to: 8 }, Range { from: 8, to: 9 }].as_slice());
     let full = canon_cut(alloc, 64)?;

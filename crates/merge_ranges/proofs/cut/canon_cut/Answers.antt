@@ -1,4 +1,4 @@
-use Rattle.std.proofs.Common.{◌+◌, ◌≤◌, ◌++◌, ◌∷◌, [], suc, ◌≡◌, sym, ◌∙◌, ap, arith}
+use Rattle.std.proofs.Common.{◌+◌, ◌++◌, ◌∷◌, [], suc, ◌∙◌, ap, arith}
 use Rattle.merge_ranges.specs.Cut.{canon, canon_from}
 use Rattle.merge_ranges.specs.CutLaws.{canon_from-most}
 use Rattle.merge_ranges.proofs.Walks.{cut-step, range_at}
@@ -17,9 +17,9 @@ loop-from-preserved c =
     record {
       within = omega (arith, c.longest.ensures.within);
       left = λ most h.
-        ap (λ l. l ++ canon_from most (from + c.longest.result) c.args.m) c.in_ok-push.ensures.ok
-        ∙ ap (λ l. (c.loop-from.cut ++ range_at from c.longest.result ∷ []) ++ l)
-            (canon_from-most most (c.longest.result + most) (from + c.longest.result) c.args.m h (omega arith))
-        ∙ cut-step c.loop-from.cut (c.longest.result + most) from c.args.m c.longest.result c.loop-from-test.true c.longest.ensures.exact
-        ∙ c.loop-from.invariant.left (suc (c.longest.result + most)) (omega arith);
+          ap (λ l. l ++ canon_from most (from + c.longest.result) c.args.m) c.in_ok-push.ensures.ok
+          ∙ ap (λ l. (c.loop-from.cut ++ range_at from c.longest.result ∷ []) ++ l)
+          (canon_from-most most (c.longest.result + most) (from + c.longest.result) c.args.m h (omega arith))
+          ∙ cut-step c.loop-from.cut (c.longest.result + most) from c.args.m c.longest.result c.loop-from-test.true c.longest.ensures.exact
+          ∙ c.loop-from.invariant.left (suc (c.longest.result + most)) (omega arith);
     }

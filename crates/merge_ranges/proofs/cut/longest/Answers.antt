@@ -1,4 +1,4 @@
-use Rattle.std.proofs.Common.{sym, ◌∙◌, arith}
+use Rattle.std.proofs.Common.{sym, ◌∙◌}
 use Rattle.merge_ranges.proofs.Walks.{fit-past}
 use Rattle.merge_ranges.proofs.cut.longest.Goals as goal
 

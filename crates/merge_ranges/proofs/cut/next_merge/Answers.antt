@@ -1,6 +1,6 @@
-use Rattle.std.proofs.Common.{◌+◌, ◌≤◌, zero, suc, cond, find, Some, None, Option, ◌≡◌, sym, ◌∙◌, ap, arith}
+use Rattle.std.proofs.Common.{◌+◌, suc, cond, find, Some, None, Option, ◌≡◌, sym, ◌∙◌, ap, arith}
 use Rattle.agg_model.specs.declared.entity.Range.{Range}
-use Rattle.merge_ranges.specs.Cut.{canon, canon_from, next_merge_of, is_to_merge, end_of}
+use Rattle.merge_ranges.specs.Cut.{canon, canon_from, next_merge_of, is_to_merge}
 use Rattle.merge_ranges.specs.CutLaws.{canon_from-most, answer-union, answer-settled}
 use Rattle.merge_ranges.proofs.Walks.{find-step, range_at}
 use Rattle.merge_ranges.proofs.cut.next_merge.Goals as goal
@@ -12,8 +12,8 @@ unfolding canon next_merge_of
 loop-from-init c = record {
   within = omega arith;
   left = λ most h.
-    ap (find (is_to_merge c.args.cut.now c.args.busy.now))
-    (canon_from-most most c.end-end.result 0 c.end-end.result h (omega arith) ∙ ap canon c.end-end.ensures);
+      ap (find (is_to_merge c.args.cut.now c.args.busy.now))
+      (canon_from-most most c.end-end.result 0 c.end-end.result h (omega arith) ∙ ap canon c.end-end.ensures);
 }
 
 pub overflow_add-range : goal.overflow_add-range
@@ -26,7 +26,7 @@ found c =
     let end = c.end-end.result in
     let range = range_at from c.longest.result in
     sym (find-step p end from end c.longest.result c.loop-from-test.true c.longest.ensures.exact
-        ∙ ap (λ t. cond t (Some range) (find p (canon_from end (from + c.longest.result) end))) (sym c.is_free.ensures ∙ c.if-is_free.true))
+    ∙ ap (λ t. cond t (Some range) (find p (canon_from end (from + c.longest.result) end))) (sym c.is_free.ensures ∙ c.if-is_free.true))
     ∙ c.loop-from.invariant.left (suc end) (omega arith)
 
 pub returns-then-is_free : goal.returns-then-is_free
@@ -44,11 +44,11 @@ loop-from-preserved c =
     record {
       within = omega (arith, c.longest.ensures.within);
       left = λ most h.
-        ap (find p) (canon_from-most most (c.longest.result + most) (from + c.longest.result) end h (omega arith))
-        ∙ sym (find-step p (c.longest.result + most) from end c.longest.result c.loop-from-test.true c.longest.ensures.exact
-            ∙ ap (λ t. cond t (Some (range_at from c.longest.result)) (find p (canon_from (c.longest.result + most) (from + c.longest.result) end)))
-                (sym c.is_free.ensures ∙ c.if-is_free.false))
-        ∙ c.loop-from.invariant.left (suc (c.longest.result + most)) (omega arith);
+          ap (find p) (canon_from-most most (c.longest.result + most) (from + c.longest.result) end h (omega arith))
+          ∙ sym (find-step p (c.longest.result + most) from end c.longest.result c.loop-from-test.true c.longest.ensures.exact
+          ∙ ap (λ t. cond t (Some (range_at from c.longest.result)) (find p (canon_from (c.longest.result + most) (from + c.longest.result) end)))
+          (sym c.is_free.ensures ∙ c.if-is_free.false))
+          ∙ c.loop-from.invariant.left (suc (c.longest.result + most)) (omega arith);
     }
 
 pub returns-clause-settled : goal.returns-clause-settled

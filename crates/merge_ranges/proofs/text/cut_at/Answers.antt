@@ -1,4 +1,4 @@
-use Rattle.std.proofs.Common.{◌<◌, length, arith}
+use Rattle.std.proofs.Common.{length, arith}
 use Rattle.merge_ranges.proofs.Texts.{parts_are, mark_there, mark_inside}
 use Rattle.merge_ranges.proofs.text.cut_at.Goals as goal
 
@@ -9,5 +9,5 @@ returns-then-byte-mark-clause-only c =
 pub returns-clause-only : goal.returns-clause-only
 returns-clause-only c =
     λ front back without same.
-        let inside = mark_inside c.args.text.now front back c.args.mark without same in
-        c.loop-i.invariant (length front) (omega arith) (mark_there c.args.text.now front back c.args.mark without same)
+    let inside = mark_inside c.args.text.now front back c.args.mark without same in
+    c.loop-i.invariant (length front) (omega arith) (mark_there c.args.text.now front back c.args.mark without same)

@@ -1,7 +1,6 @@
 use Rattle.std.specs.Prelude.{IfSome}
 use Rattle.std.proofs.Common.{◌≡◌, sym, ◌∙◌, subst}
-use Rattle.merge_ranges.specs.Name.{spelled_on_disk, on_disk_of}
-use Rattle.merge_ranges.specs.declared.name.DiskName.{DiskName}
+use Rattle.merge_ranges.specs.Name.{spelled_on_disk}
 use Rattle.merge_ranges.proofs.Names.{temporary, lasting, temporary-text, lasting-text}
 use Rattle.merge_ranges.proofs.name.DiskName.read.Goals as goal
 
