@@ -1,0 +1,5 @@
+pub mod Numbers
+pub mod Texts
+pub mod Writing
+pub mod Views
+pub mod Codes

@@ -1,0 +1,179 @@
+ghost use Rattle.std.specs.Prelude.{◌≡◌, ◌<◌, ◌≤◌, ◌+◌, ◌*◌, ◌%◌, ◌/◌, ◌^◌, false, length, take, drop, slice_index_or, count_ones, IfSome, IfNone};
+ghost use Rattle.bit_store.specs.Bits.{number_of, bits_of, ones_of, IsOneAt};
+ghost use Rattle.bit_store.specs.Counts.{number_in, IsPlaceIn};
+
+use crate::bits::low_part;
+use agg_outside::slice_fits;
+use std::marker::Model;
+
+/// The first bits of a text.
+#[derive(Debug, Drop)]
+pub struct BitView<'a> {
+    bytes: &'a [u8],
+    len: u64,
+}
+
+impl<'a> Model for BitView<'a> {
+    ghost use Rattle.std.specs.Prelude.{List, Bool, take, length, ◌≤◌, ◌*◌};
+    ghost use Rattle.bit_store.specs.Bits.{bits_of};
+
+    ghost Value = { List Bool };
+
+    ghost view = { λ it. take it.len (bits_of it.bytes.now) };
+
+    ghost invariant = { λ it. it.len ≤ 8 * length it.bytes.now };
+}
+
+// Fewer than sixteen bytes as a number, the first the least.
+fn few(bytes: &[u8]) -> u128
+    requires { length bytes.now < 16 }
+    ensures { result ≡ number_in bytes.now }
+{
+    let len = bytes.len();
+    let mut number = 0;
+    for k in 0..len {
+        number = number * 256 + bytes[len - 1 - k] as u128;
+    }
+    number
+}
+
+// The next sixteen bytes as a number, the first the least; past the end they are 0.
+fn window(bytes: &[u8], start: usize) -> u128
+    requires { start ≤ length bytes.now }
+    ensures { result ≡ number_in (take 16 (drop start bytes.now)) }
+{
+    let rest = &bytes[start..];
+    if rest.len() < 16 {
+        return few(rest);
+    }
+    u128::from_le_bytes([
+        rest[0], rest[1], rest[2], rest[3], rest[4], rest[5], rest[6], rest[7], rest[8], rest[9],
+        rest[10], rest[11], rest[12], rest[13], rest[14], rest[15],
+    ])
+}
+
+// The place of the k-th 1 of a number, by halves.
+fn place_in(word: u64, k: u32) -> u32
+    requires { k < count_ones word }
+    ensures { IsPlaceIn word k result }
+{
+    let mut left = k;
+    let mut at = 0;
+    let mut size = 6u32;
+    while size > 0 {
+        size -= 1;
+        let half = 1u32 << size;
+        let low = low_part(word >> at, half).count_ones();
+        if low <= left {
+            left -= low;
+            at += half;
+        }
+    }
+    at
+}
+
+impl<'a> BitView<'a> {
+    /// The first `len` bits of the text.
+    pub fn of(bytes: &'a [u8], len: u64) -> BitView<'a>
+        requires { len ≤ 8 * length bytes.now }
+        ensures { result ≡ take len (bits_of bytes.now) }
+    {
+        BitView { bytes, len }
+    }
+
+    /// The number of bits.
+    pub fn len(&self) -> u64
+        ensures { result ≡ length self.now }
+    {
+        self.len
+    }
+
+    pub fn get(&self, i: u64) -> bool
+        requires { i < length self.now }
+        ensures { result ≡ slice_index_or self.now i false }
+    {
+        slice_fits(self.bytes);
+        let byte = self.bytes[(i / 8) as usize];
+        (byte >> (i % 8)) & 1 == 1
+    }
+
+    /// The number whose digits are the next `width` bits from `i` on, the first the least significant.
+    pub fn field(&self, i: u64, width: u32) -> u64
+        requires inside { i + width ≤ length self.now }
+        requires wide { width ≤ 64 }
+        ensures { result ≡ number_of (take width (drop i self.now)) }
+    {
+        let from = window(self.bytes, (i / 8) as usize) >> (i % 8);
+        low_part((from % (1 << 64)) as u64, width)
+    }
+
+    /// How many of the first `i` bits are 1.
+    pub fn ones_before(&self, i: u64) -> u64
+        requires { i ≤ length self.now }
+        ensures { result ≡ ones_of (take i self.now) }
+    {
+        let mut total = 0;
+        let mut at = 0;
+        while i - at > 64 {
+            total += u64::from(self.field(at, 64).count_ones());
+            at += 64;
+        }
+        total + u64::from(self.field(at, (i - at) as u32).count_ones())
+    }
+
+    /// The place of the k-th 1, counted from 0.
+    pub fn select_one(&self, k: u64) -> Option<u64>
+        ensures found { IfSome result (λ p. IsOneAt self.now p × (ones_of (take p self.now) ≡ k)) }
+        ensures none { IfNone result (ones_of self.now ≤ k) }
+    {
+        let mut left = k;
+        let mut at = 0;
+        while at < self.len() {
+            let width = (self.len() - at).min(64);
+            let word = self.field(at, width as u32);
+            let ones = u64::from(word.count_ones());
+            if left < ones {
+                return Some(at + u64::from(place_in(word, left as u32)));
+            }
+            left -= ones;
+            at += width;
+        }
+        None
+    }
+
+    /// The place of the first 1 from `from` on.
+    pub fn next_one(&self, from: u64) -> Option<u64>
+        requires { from ≤ length self.now }
+        ensures found { IfSome result (λ p. (from ≤ p) × IsOneAt self.now p × (ones_of (take p self.now) ≡ ones_of (take from self.now))) }
+        ensures none { IfNone result (ones_of self.now ≡ ones_of (take from self.now)) }
+    {
+        let mut at = from;
+        while at < self.len() {
+            let width = (self.len() - at).min(64);
+            let word = self.field(at, width as u32);
+            if word != 0 {
+                return Some(at + u64::from(word.trailing_zeros()));
+            }
+            at += width;
+        }
+        None
+    }
+
+    /// The place of the last 1 before `to`.
+    pub fn last_one(&self, to: u64) -> Option<u64>
+        requires { to ≤ length self.now }
+        ensures found { IfSome result (λ p. (p < to) × IsOneAt self.now p × (ones_of (take to self.now) ≡ ones_of (take p self.now) + 1)) }
+        ensures none { IfNone result (ones_of (take to self.now) ≡ 0) }
+    {
+        let mut at = to;
+        while at > 0 {
+            let width = at.min(64);
+            let word = self.field(at - width, width as u32);
+            if word != 0 {
+                return Some(at - width + u64::from(word.ilog2()));
+            }
+            at -= width;
+        }
+        None
+    }
+}
