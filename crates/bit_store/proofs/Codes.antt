@@ -1,12 +1,12 @@
 -- Rice codes written and read.
-use Rattle.std.proofs.Common.{◌≡◌, ℕ, zero, suc, ◌+◌, ◌-◌, ◌*◌, ◌/◌, ◌%◌, ◌^◌, ◌<◌, ◌≤◌, Bool, true, false, List, [], ◌∷◌, ◌++◌, length, take, drop, get_or, replicate, refl, sym, ap, ◌∙◌, arith, append_assoc}
-use Rattle.std.proofs.Math.Nat.{mod-eq_of_lt, mod-lt, mul_comm}
+use Rattle.std.proofs.Common.{◌≡◌, ℕ, zero, suc, ◌+◌, ◌-◌, ◌*◌, ◌/◌, ◌%◌, ◌^◌, ◌<◌, ◌≤◌, Bool, true, false, List, [], ◌∷◌, ◌++◌, length, take, drop, replicate, refl, sym, ap, ◌∙◌, arith, append_assoc}
+use Rattle.std.proofs.Math.Nat.{mul_comm}
 use Rattle.std.proofs.lemmas.Nat.{pow_pos, pow-add, shr_split, div-mul-add, mod-mul-add, mul-add-lt, le-div}
 use Rattle.std.proofs.lemmas.Nat.Bits.{ones_shr}
-use Rattle.std.proofs.lemmas.List.{length-append, length-take, length-drop, length-replicate, take-append-drop, take_at, drop_at, drop-drop, drop_more, drop_all}
-use Rattle.bit_store.specs.Bits.{digit, number_of, low_bits, ones_of, IsOneAt}
+use Rattle.std.proofs.lemmas.List.{length-append, length-take, length-drop, length-replicate, take-append-drop, take_at, drop_at, drop-drop, drop_more}
+use Rattle.bit_store.specs.Bits.{number_of, low_bits, ones_of, IsOneAt}
 use Rattle.bit_store.specs.Rice.{rice_code, StandsAt}
-use Rattle.bit_store.proofs.Numbers.{number_of-lt, number_of-low_bits, length-low_bits, same_bits, ones_of-append, ones_of-replicate, ones_of-split}
+use Rattle.bit_store.proofs.Numbers.{number_of-lt, number_of-low_bits, length-low_bits, same_bits, ones_of-append, ones_of-split}
 use Rattle.bit_store.proofs.Views.{ones_more}
 
 pub length-rice_code : (r v : ℕ) → length (rice_code r v) ≡ v / 2 ^ r + 1 + r

@@ -1,13 +1,13 @@
 -- Texts and their bits.
-use Rattle.std.proofs.Common.{◌≡◌, ℕ, zero, suc, ◌+◌, ◌-◌, ◌*◌, ◌/◌, ◌%◌, ◌^◌, ◌<◌, ◌≤◌, Bool, true, false, cond, eqb, List, [], ◌∷◌, ◌++◌, length, take, drop, get_or, set, replicate, refl, sym, ap, ◌∙◌, subst, arith, inl, inr, append_assoc, add-one}
-use Rattle.std.proofs.Math.Nat.{pow-succ', div-div-eq-div-mul, zero-mod, zero-div, add_comm, mul_comm, mod-eq_of_lt, mod-lt}
-use Rattle.std.proofs.lemmas.Nat.{pow_pos, mod-pow-add, pow-add, rows, from_le_bytes-to_le_bytes_8}
-use Rattle.std.proofs.lemmas.Bool.{eqb-true, cases_lt}
-use Rattle.std.proofs.lemmas.List.{append-nil, length-append, length-take, length-drop, take-append-drop, take_at, drop_at, take_all, drop_all, set_split, length-replicate, get_or_past, nil_from_length, get_or-drop, get_or-take, drop_more}
+use Rattle.std.proofs.Common.{◌≡◌, ℕ, zero, suc, ◌+◌, ◌-◌, ◌*◌, ◌/◌, ◌%◌, ◌^◌, ◌<◌, ◌≤◌, Bool, false, List, [], ◌∷◌, ◌++◌, length, take, drop, get_or, replicate, refl, sym, ap, ◌∙◌, arith, inl, inr, append_assoc}
+use Rattle.std.proofs.Math.Nat.{mod-eq_of_lt, mod-lt}
+use Rattle.std.proofs.lemmas.Nat.{pow_pos, pow-add, rows, from_le_bytes-to_le_bytes_8}
+use Rattle.std.proofs.lemmas.Bool.{cases_lt}
+use Rattle.std.proofs.lemmas.List.{length-append, length-take, length-drop, take-append-drop, take_at, drop_at, take_all, drop_all, length-replicate, get_or_past, nil_from_length, get_or-drop, get_or-take, drop_more}
 use Rattle.std.specs.Int.{w64, w128, from_le_bytes, to_le_bytes}
-use Rattle.bit_store.specs.Bits.{digit, number_of, low_bits, ones_of, bits_of, bytes_from, bytes_for, text_of, IsHeld}
+use Rattle.bit_store.specs.Bits.{number_of, low_bits, bits_of, bytes_from, bytes_for, text_of, IsHeld}
 use Rattle.bit_store.specs.Counts.{number_in}
-use Rattle.bit_store.proofs.Numbers.{number_of-lt, number_of-append, number_of-low_bits, length-low_bits, number_of-take, number_of-drop, same_bits, low_bits-append, number_of-replicate}
+use Rattle.bit_store.proofs.Numbers.{number_of-lt, number_of-append, number_of-low_bits, length-low_bits, number_of-take, number_of-drop, same_bits, number_of-replicate}
 
 abbrev pub IsBytes : List ℕ → Type 0
 IsBytes bytes = (i : ℕ) → get_or bytes i 0 < 256

@@ -1,18 +1,18 @@
 -- Parts of a list of bits, and their ones.
-use Rattle.std.proofs.Common.{◌≡◌, ℕ, zero, suc, ◌+◌, ◌-◌, ◌*◌, ◌/◌, ◌%◌, ◌^◌, ◌<◌, ◌≤◌, ◌≢◌, Bool, true, false, eqb, List, [], ◌∷◌, ◌++◌, length, take, drop, get_or, refl, sym, ap, ◌∙◌, subst, arith, inl, inr, add-one}
-use Rattle.std.proofs.Math.Nat.{pow-suc, pow-succ', div-div-eq-div-mul, mod-lt, mod-eq_of_lt, zero-div, zero-mod, div-one, add_comm, pow-le-pow_right, div-eq_of_lt, div-eq_of_lt-le}
-use Rattle.std.proofs.lemmas.Nat.{pow_pos, pow-add, mod-pow-add, shr_split, shr-shr, field_of, ones_cat, ones_le_self, and_mask, one_shl}
+use Rattle.std.proofs.Common.{◌≡◌, ℕ, zero, suc, ◌+◌, ◌-◌, ◌*◌, ◌/◌, ◌%◌, ◌^◌, ◌<◌, ◌≤◌, Bool, true, false, eqb, List, [], ◌∷◌, length, take, drop, get_or, refl, sym, ap, ◌∙◌, subst, arith, inl, inr}
+use Rattle.std.proofs.Math.Nat.{pow-succ', div-div-eq-div-mul, mod-lt, mod-eq_of_lt, zero-div, div-one, add_comm, pow-le-pow_right, div-eq_of_lt, div-eq_of_lt-le}
+use Rattle.std.proofs.lemmas.Nat.{pow_pos, pow-add, mod-pow-add, shr_split, shr-shr, field_of, ones_cat, ones_le_self}
 use Rattle.std.proofs.lemmas.Nat.Bits.{bit_at-trailing_zeros, same_from_bits, bit_at_cat_low, bit_at_above, bit_at-zero}
-use Rattle.std.proofs.lemmas.Bool.{cases_lt, eqb-true}
-use Rattle.std.proofs.lemmas.List.{length-append, length-take, length-drop, take-append-drop, take-take, drop-take, drop-drop, take_all, drop_all, drop_more, take_more, get_or-drop}
+use Rattle.std.proofs.lemmas.Bool.{cases_lt}
+use Rattle.std.proofs.lemmas.List.{length-take, length-drop, take-append-drop, take-take, drop-take, drop-drop, take_all, drop_more}
 use Rattle.std.specs.Int.{w64, bit_at, trailing_zeros}
 use Rattle.std.specs.Int.RustNames.{count_ones}
 use Rattle.std.specs.Int.Count.{ones_step}
 use Rattle.bit_store.specs.Bits.{digit, number_of, ones_of, bits_of, IsOneAt}
 use Rattle.bit_store.specs.Counts.{number_in, IsPlaceIn}
-use Rattle.bit_store.proofs.Numbers.{digit-lt, number_of-take, number_of-drop, number_of-lt, ones-number_of, ones_of-append, ones_of-le}
+use Rattle.bit_store.proofs.Numbers.{digit-lt, number_of-take, number_of-drop, number_of-lt, ones-number_of, ones_of-append}
 use Rattle.bit_store.proofs.Writing.{low_of_low}
-use Rattle.bit_store.proofs.Texts.{IsBytes, bits_of-take, bits_of-drop, number_in-cons, number_in-nil, number_in-lt, number_in-step, length-bits_of}
+use Rattle.bit_store.proofs.Texts.{IsBytes, bits_of-take, bits_of-drop, number_in-cons, number_in-nil, number_in-lt, number_in-step}
 
 -- a part of the first bits is that part of all
 pub part_of_front : (w s k : ℕ) (xs : List Bool) → s + w ≤ k → take w (drop s (take k xs)) ≡ take w (drop s xs)

@@ -3,7 +3,7 @@ use Rattle.std.proofs.Common.{false, ◌≡◌, ℕ, zero, suc, ◌+◌, ◌-◌
 use Rattle.std.proofs.Math.Nat.{mul-le-mul_left, pow-le-pow_right, mul_assoc, mul_comm, mul-add, div-one, mod-le, mod-lt, mod-eq_of_lt, zero-mod}
 use Rattle.std.proofs.lemmas.Nat.{pow_pos, pow-add, shr_split, shr_below, mod-pow-add, mod-mul-add}
 use Rattle.std.proofs.lemmas.Bool.{cases_lt}
-use Rattle.std.proofs.lemmas.List.{length-append, length-take, take-append-drop, drop_more, drop_all, length-set, get_or_append_left, get_or_past, nil_from_length, take-take, take_all, length-replicate}
+use Rattle.std.proofs.lemmas.List.{length-append, length-take, take-append-drop, drop_more, drop_all, get_or_append_left, get_or_past, nil_from_length, take-take, take_all, length-replicate}
 use Rattle.std.specs.Int.{w64, to_le_bytes}
 use Rattle.bit_store.specs.Bits.{number_of, bits_of, bytes_for, IsHeld}
 use Rattle.bit_store.specs.Counts.{number_in}

@@ -1,5 +1,5 @@
 -- Rice codes.
-use Rattle.std.specs.Prelude.{◌≡◌, ℕ, ◌+◌, ◌/◌, ◌^◌, Bool, true, false, List, [], ◌∷◌, ◌++◌, length, take, drop, replicate}
+use Rattle.std.specs.Prelude.{◌≡◌, ℕ, ◌/◌, ◌^◌, Bool, true, false, List, ◌∷◌, ◌++◌, length, take, drop, replicate}
 use Rattle.bit_store.specs.Bits.{low_bits}
 
 -- the code of a number: value >> r bits 0, one bit 1, and then the low r bits

@@ -81,6 +81,16 @@ impl<'a> BitView<'a> {
         BitView { bytes, len }
     }
 
+    /// The same view once more.
+    pub fn again(&self) -> BitView<'a>
+        ensures { result ≡ self.now }
+    {
+        BitView {
+            bytes: self.bytes,
+            len: self.len,
+        }
+    }
+
     /// The number of bits.
     pub fn len(&self) -> u64
         ensures { result ≡ length self.now }

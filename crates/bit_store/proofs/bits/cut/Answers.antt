@@ -1,4 +1,4 @@
-use Rattle.std.proofs.Common.{arith, refl, sym, ap, ◌∙◌, ◌≡◌, ◌+◌, ◌/◌, ◌%◌, ◌^◌, ◌*◌, get_or, set}
+use Rattle.std.proofs.Common.{arith, refl, ◌≡◌, ◌/◌, ◌%◌, ◌^◌, ◌*◌, get_or, set}
 use Rattle.std.proofs.lemmas.Nat.{one_shl}
 use Rattle.std.proofs.lemmas.List.{get_or_read}
 use Rattle.bit_store.proofs.Texts.{IsBytes}

@@ -1,4 +1,4 @@
-use Rattle.std.proofs.Common.{arith, refl, sym, ap, ◌∙◌, ◌≡◌, ℕ, ◌%◌, ◌^◌, ◌-◌, ◌+◌, ◌/◌, ◌*◌, ◌++◌, get_or, set, take, length, ◌<◌, List}
+use Rattle.std.proofs.Common.{arith, refl, ◌∙◌, ◌≡◌, ℕ, ◌%◌, ◌^◌, ◌-◌, ◌+◌, ◌/◌, ◌*◌, ◌++◌, get_or, set, take, length}
 use Rattle.std.specs.Int.{w64, to_le_bytes}
 use Rattle.std.proofs.lemmas.Nat.{one_shl}
 use Rattle.bit_store.proofs.Texts.{IsBytes}

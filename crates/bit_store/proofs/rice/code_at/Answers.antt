@@ -1,11 +1,10 @@
-use Rattle.std.proofs.Common.{◌≡◌, ◌≤◌, ◌<◌, ◌+◌, ◌-◌, ◌*◌, ◌/◌, ◌%◌, ◌^◌, ℕ, ap, sym, ◌∙◌, arith, length, take, drop}
+use Rattle.std.proofs.Common.{◌≡◌, ◌≤◌, ◌<◌, ◌+◌, ◌-◌, ◌*◌, ◌%◌, ◌^◌, arith, length, take, drop}
 use Rattle.std.proofs.Math.Nat.{mod-eq_of_lt}
 use Rattle.std.proofs.lemmas.Nat.{shr_split}
 use Rattle.std.proofs.lemmas.List.{length-take, length-drop}
-use Rattle.bit_store.specs.Bits.{number_of}
 use Rattle.bit_store.specs.Rice.{rice_code, StandsAt}
 use Rattle.bit_store.proofs.Numbers.{number_of-lt}
-use Rattle.bit_store.proofs.Codes.{coded, has_one, found, Found, value_fits, too_many}
+use Rattle.bit_store.proofs.Codes.{coded, has_one, found, value_fits, too_many}
 use Rattle.bit_store.proofs.rice.code_at.Goals as goal
 use Rattle.bit_store.proofs.rice.code_at.Goals.{then-len-start-via-then-len-start, then-len-start-via-else-len-start+then-zeros-r}
 

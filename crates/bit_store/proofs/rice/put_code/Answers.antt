@@ -1,7 +1,6 @@
-use Rattle.std.proofs.Common.{◌≡◌, ◌++◌, ap, subst, ◌∙◌, arith, List, Bool, Result, Ok, Err, rules}
+use Rattle.std.proofs.Common.{◌≡◌, ◌++◌, ap, subst, ◌∙◌, List, Bool}
 use Rattle.std.specs.Prelude.{OnOk, replicate, ◌/◌, ◌^◌, false}
 use Rattle.bit_store.specs.Bits.{low_bits}
-use Rattle.bit_store.specs.Rice.{rice_code}
 use Rattle.bit_store.proofs.Codes.{parts_of_code}
 use Rattle.bit_store.proofs.rice.put_code.Goals as goal
 

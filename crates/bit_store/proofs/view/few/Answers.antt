@@ -1,7 +1,7 @@
-use Rattle.std.proofs.Common.{arith, refl, sym, ap, ◌∙◌, length, ◌-◌, drop, ◌≡◌, ◌^◌, ◌<◌}
+use Rattle.std.proofs.Common.{arith, sym, ap, ◌∙◌, length, ◌-◌, ◌^◌, ◌<◌}
 use Rattle.std.proofs.lemmas.List.{drop_all}
 use Rattle.bit_store.specs.Counts.{number_in}
-use Rattle.bit_store.proofs.Texts.{IsBytes, number_in-nil}
+use Rattle.bit_store.proofs.Texts.{number_in-nil}
 use Rattle.bit_store.proofs.Views.{few_below, few_more}
 use Rattle.bit_store.proofs.view.few.Goals as goal
 

@@ -1,4 +1,4 @@
-use Rattle.std.proofs.Common.{arith, refl, sym, ap, ◌∙◌, ◌-◌, ◌<◌, ◌≡◌, ◌^◌, ◌*◌, ◌%◌}
+use Rattle.std.proofs.Common.{arith, ap, ◌-◌, ◌≡◌, ◌^◌, ◌*◌, ◌%◌}
 use Rattle.std.proofs.lemmas.Nat.{one_shl}
 use Rattle.std.specs.Int.RustNames.{count_ones}
 use Rattle.bit_store.proofs.Views.{narrow_up}

@@ -1,4 +1,4 @@
-use Rattle.std.proofs.Common.{arith, refl, sym, ap, ◌∙◌, ◌≡◌, ◌-◌, take, drop, length}
+use Rattle.std.proofs.Common.{arith, ap, ◌∙◌, ◌≡◌, ◌-◌, take, drop, length}
 use Rattle.std.proofs.lemmas.List.{length-drop, take_all}
 use Rattle.bit_store.specs.Counts.{number_in}
 use Rattle.bit_store.proofs.Texts.{IsBytes, le_front16, IsBytes-take, IsBytes-drop}

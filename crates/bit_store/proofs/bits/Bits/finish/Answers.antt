@@ -1,4 +1,4 @@
-use Rattle.std.proofs.Common.{arith, refl, sym, ap, ◌∙◌}
+use Rattle.std.proofs.Common.{sym}
 use Rattle.bit_store.proofs.Texts.{IsBytes, text_of-held, held_back}
 use Rattle.bit_store.proofs.bits.Bits.finish.Goals as goal
 

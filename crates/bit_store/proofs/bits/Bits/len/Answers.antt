@@ -1,4 +1,4 @@
-use Rattle.std.proofs.Common.{sym, arith, length}
+use Rattle.std.proofs.Common.{arith}
 use Rattle.std.proofs.lemmas.List.{length-take}
 use Rattle.bit_store.specs.Bits.{bits_of}
 use Rattle.bit_store.proofs.Texts.{length-bits_of}

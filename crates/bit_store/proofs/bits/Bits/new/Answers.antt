@@ -1,4 +1,4 @@
-use Rattle.std.proofs.Common.{arith, refl, sym, ap, ◌∙◌}
+use Rattle.std.proofs.Common.{arith, refl}
 use Rattle.bit_store.proofs.Texts.{number_in-nil}
 use Rattle.bit_store.proofs.bits.Bits.new.Goals as goal
 

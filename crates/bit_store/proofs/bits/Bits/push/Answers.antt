@@ -1,4 +1,3 @@
-use Rattle.std.proofs.Common.{arith, refl, sym, ap, ◌∙◌}
 use Rattle.bit_store.proofs.Texts.{appended}
 use Rattle.bit_store.proofs.bits.Bits.push.Goals as goal
 

@@ -1,5 +1,4 @@
-use Rattle.std.proofs.Common.{arith, refl, sym, ap, ◌∙◌, ◌≡◌, ◌+◌, ◌/◌, ◌-◌, ◌++◌, take, replicate, length, List, ℕ}
-use Rattle.bit_store.specs.Bits.{IsHeld, bits_of}
+use Rattle.std.proofs.Common.{arith, refl, ◌∙◌, ◌≡◌, ◌+◌, ◌/◌, ◌-◌, ◌++◌, take, replicate, length, List, ℕ}
 use Rattle.bit_store.proofs.Writing.{zeros_held}
 use Rattle.bit_store.proofs.bits.Bits.push_zeros.Goals as goal
 

@@ -1,7 +1,6 @@
-use Rattle.std.proofs.Common.{arith, refl, sym, ap, ◌∙◌, length, ◌≤◌, ◌+◌, ◌/◌, ◌%◌, ◌^◌}
+use Rattle.std.proofs.Common.{arith, ◌∙◌, length, ◌≤◌, ◌+◌}
 use Rattle.std.proofs.lemmas.List.{length-take}
 use Rattle.bit_store.specs.Bits.{bits_of}
-use Rattle.bit_store.proofs.Texts.{length-bits_of}
 use Rattle.bit_store.proofs.Writing.{low_of_low}
 use Rattle.bit_store.proofs.Views.{field_in}
 use Rattle.bit_store.proofs.view.BitView.field.Goals as goal

@@ -1,8 +1,7 @@
-use Rattle.std.proofs.Common.{arith, ap, ◌∙◌, length, ◌<◌, eqb, ◌≡◌, ◌/◌, ◌%◌, ◌^◌, get_or}
+use Rattle.std.proofs.Common.{arith, ap, ◌∙◌, length, ◌<◌, eqb, ◌/◌, ◌%◌, ◌^◌, get_or}
 use Rattle.std.proofs.lemmas.List.{length-take}
 use Rattle.std.proofs.lemmas.Nat.{and_mask}
 use Rattle.bit_store.specs.Bits.{bits_of}
-use Rattle.bit_store.proofs.Texts.{IsBytes, length-bits_of}
 use Rattle.bit_store.proofs.Views.{bit_in}
 use Rattle.bit_store.proofs.view.BitView.get.Goals as goal
 

@@ -1,6 +1,6 @@
-use Rattle.std.proofs.Common.{arith, refl, sym, ap, ◌∙◌, ◌≡◌, ◌≤◌, ◌+◌, ◌-◌, length, take, ℕ}
+use Rattle.std.proofs.Common.{arith, sym, ap, ◌∙◌, ◌≡◌, ◌≤◌, ◌+◌, ◌-◌, length, take, ℕ}
 use Rattle.bit_store.specs.Bits.{ones_of}
-use Rattle.bit_store.proofs.Views.{Placed, placed, highest, no_ones, ones_field, ones_of-nil}
+use Rattle.bit_store.proofs.Views.{placed, highest, no_ones, ones_field, ones_of-nil}
 use Rattle.bit_store.proofs.view.BitView.last_one.Goals as goal
 
 pub returns-then-word-ne0-clause-found : goal.returns-then-word-ne0-clause-found

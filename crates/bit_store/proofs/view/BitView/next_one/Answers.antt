@@ -1,4 +1,4 @@
-use Rattle.std.proofs.Common.{arith, refl, sym, ap, ◌∙◌, ◌≡◌, ◌≤◌, ◌+◌, length}
+use Rattle.std.proofs.Common.{arith, ◌∙◌, ◌≤◌, ◌+◌, length}
 use Rattle.bit_store.proofs.Views.{Placed, placed, lowest, no_ones}
 use Rattle.std.specs.Int.{w64, trailing_zeros}
 use Rattle.bit_store.proofs.view.BitView.next_one.Goals as goal

@@ -1,4 +1,4 @@
-use Rattle.std.proofs.Common.{arith, refl, sym, ap, ◌∙◌, ◌≡◌, ◌≤◌, ◌+◌, ◌-◌, take, ℕ}
+use Rattle.std.proofs.Common.{arith, sym, ap, ◌≡◌, ◌+◌, ◌-◌, take}
 use Rattle.std.proofs.lemmas.List.{length-take}
 use Rattle.bit_store.specs.Bits.{ones_of}
 use Rattle.bit_store.proofs.Numbers.{ones_of-le}

@@ -1,4 +1,4 @@
-use Rattle.std.proofs.Common.{arith, refl, sym, ap, ◌∙◌, ◌≡◌, ◌≤◌, ◌+◌, length}
+use Rattle.std.proofs.Common.{arith, ◌≤◌, ◌+◌, length}
 use Rattle.bit_store.proofs.Views.{Placed, placed, ones_field, ones_of-nil}
 use Rattle.bit_store.proofs.view.BitView.select_one.Goals as goal
 
