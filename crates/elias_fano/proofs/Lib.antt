@@ -1,0 +1,10 @@
+mod Rows
+pub mod Lower
+pub mod Upper
+pub mod Places
+pub mod Faults
+pub mod Widths
+pub mod Checked
+pub mod Joined
+pub mod Spelled
+pub mod ReadBack

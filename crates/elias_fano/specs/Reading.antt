@@ -2,9 +2,12 @@
 use Rattle.std.specs.Prelude.{◌≡◌, ℕ, zero, suc, ◌+◌, ◌-◌, ◌*◌, ◌/◌, ◌%◌, ◌^◌, ◌<◌, ◌≤◌, ◌==◌, nat_lt, nat_le, Bool, true, false, if◌then◌else◌, List, [], ◌∷◌, ◌++◌, length, map, take, drop, Option, Some, None}
 use Rattle.std.specs.List.{range_with_len, position_from}
 use Rattle.std.specs.Option.{option_or, option_map}
+use Rattle.std.specs.List.Sorted.{IsNonDecreasing}
 use Rattle.std.specs.Int.{w64, from_be_bytes}
 use Rattle.bit_store.specs.Bits.{number_of, bits_of, bytes_for, ones_of}
 use Rattle.elias_fano.specs.Spelling.{low_width, last_of, upper_len}
+use Rattle.elias_fano.specs.declared.parts.Parts.{Parts}
+use Rattle.elias_fano.specs.declared.header.Header.{Header}
 use Rattle.elias_fano.specs.declared.error.EfError.{EfError}
 use Rattle.elias_fano.specs.declared.error.EfError.TheVariants.{Short, Zero, Extra, Unused, Count, Descends, Last}
 
@@ -15,19 +18,33 @@ place_of_one (false ∷ bits) k = suc (place_of_one bits k)
 place_of_one (true ∷ bits) zero = 0
 place_of_one (true ∷ bits) (suc k) = suc (place_of_one bits k)
 
--- the parts of a text: how many items, the width of their low parts, and the bits
-pub record Parts : Type 0 where
-  pub count : ℕ
-  pub width : ℕ
-  pub lower : List Bool
-  pub upper : List Bool
-
 -- item i: its upper part is the place of the i-th 1, minus i, and its lower part is field i
 abbrev pub item_at : Parts → ℕ → ℕ
 item_at p i = (place_of_one p.upper i - i) * 2 ^ p.width + number_of (take p.width (drop (i * p.width) p.lower))
 
 unfoldable pub items_of : Parts → List ℕ
 items_of p = map (item_at p) (range_with_len 0 p.count)
+
+-- every item can be read and is a number of 64 bits
+pub record IsSound (p : Parts) : Type 0 where
+  pub lower : length p.lower ≡ p.count * p.width
+  pub fits : p.count * p.width < 2 ^ 64
+  pub narrow : p.width < 64
+  pub room : length p.upper < 2 ^ 64
+  pub ones : ones_of p.upper ≡ p.count
+  pub small : (i : ℕ) → i < p.count → item_at p i < 2 ^ 64
+
+-- and the items do not descend
+pub record IsListed (p : Parts) : Type 0 where
+  pub sound : IsSound p
+  pub ascends : IsNonDecreasing (items_of p)
+
+-- the items of the parts from a place on are left to be read, and their first 1 stands at bit or behind
+pub record IsOnward (p : Parts) (place bit : ℕ) : Type 0 where
+  pub sound : IsSound p
+  pub within : place ≤ p.count
+  pub inside : bit ≤ length p.upper
+  pub before : ones_of (take bit p.upper) ≡ place
 
 -- ---- the header, and where the parts lie
 
@@ -95,3 +112,23 @@ fault_in bytes =
     else if nat_lt (length bytes) (asked_in bytes) then Some (Short (length bytes))
     else if nat_lt (asked_in bytes) (length bytes) then Some (Extra (asked_in bytes))
     else option_or (option_map (λ bit. Unused bit) (unused_one bytes)) (item_fault (last_in bytes) (parts_in bytes))
+
+-- what a header says of bytes that are as long as it asks
+pub record IsHeader (bytes : List ℕ) (h : Header) : Type 0 where
+  pub count : h.count ≡ count_in bytes
+  pub last : h.last ≡ last_in bytes
+  pub width : h.width ≡ width_in bytes
+  pub lower_len : h.lower_len ≡ lower_len_in bytes
+  pub upper_len : h.upper_len ≡ upper_len_in bytes
+  pub start : h.start ≡ upper_start_in bytes
+  pub some : 0 < count_in bytes
+  pub narrow : width_in bytes < 64
+  pub size : length bytes ≡ asked_in bytes
+
+-- nothing is wrong
+pub record IsFine (bytes : List ℕ) : Type 0 where
+  pub some : 0 < count_in bytes
+  pub narrow : width_in bytes < 64
+  pub size : length bytes ≡ asked_in bytes
+  pub unused : unused_one bytes ≡ None
+  pub items : item_fault (last_in bytes) (parts_in bytes) ≡ None

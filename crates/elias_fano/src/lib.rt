@@ -2,5 +2,17 @@
 #![tactic(auto)]
 
 mod error;
+mod header;
+mod iter;
+mod list;
+mod opening;
+mod parts;
+mod writing;
 
 pub use error::EfError;
+pub use iter::{EfBack, EfIter};
+pub use list::EfList;
+pub use writing::encode;
+
+#[cfg(test)]
+mod tests;

@@ -1,0 +1,11 @@
+use Rattle.std.proofs.Common.{◌∙◌, ap, sym, arith, drop}
+use Rattle.std.proofs.lemmas.List.{drop_all}
+use Rattle.elias_fano.specs.Reading.{items_of}
+use Rattle.elias_fano.proofs.Places.{length-items_of}
+use Rattle.elias_fano.proofs.list.EfList.iter_from.Goals as goal
+
+pub returns-else-place-parts : goal.returns-else-place-parts
+returns-else-place-parts c =
+    let p = c.self.inside.parts in
+    let len = length-items_of p in
+    rw (← c.self.view_is) (c.new-else-place-parts.ensures ∙ ap (λ q. drop p.count (items_of q)) c.again-else-place-parts.ensures ∙ drop_all p.count (items_of p) (omega (arith, len)) ∙ sym (drop_all c.args.place (items_of p) (omega (arith, len, c.if-place-parts.false))))
