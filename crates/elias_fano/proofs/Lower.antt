@@ -44,13 +44,13 @@ get_or-fields l [] j lt = absurd (omega arith)
 get_or-fields l (v ∷ items) j lt =
     elim (cases_lt j l) [
       | inl small ↦
-        get_or_append_left (low_bits l v) (fields l items) false j (omega (arith, length-low_bits l v)) ∙ get_or-low_bits l v j small
+          get_or_append_left (low_bits l v) (fields l items) false j (omega (arith, length-low_bits l v)) ∙ get_or-low_bits l v j small
           ∙ (rw (div-eq_of_lt small, mod-eq_of_lt small) refl)
       | inr big ↦
-        let k : ℕ = j - l in
-        let is : j ≡ l + k = omega arith in
-        let wide : suc (length items) * l ≡ length items * l + l = suc-mul (length items) l in
-        get_or-append_right (low_bits l v) (fields l items) l j false (length-low_bits l v) big ∙ get_or-fields l items k (omega (arith, wide)) ∙ bit_past l v items j k (some_width (suc (length items)) l j lt) is
+          let k : ℕ = j - l in
+          let is : j ≡ l + k = omega arith in
+          let wide : suc (length items) * l ≡ length items * l + l = suc-mul (length items) l in
+          get_or-append_right (low_bits l v) (fields l items) l j false (length-low_bits l v) big ∙ get_or-fields l items k (omega (arith, wide)) ∙ bit_past l v items j k (some_width (suc (length items)) l j lt) is
     ]
 
 -- the fields are the lower part
@@ -79,7 +79,7 @@ fields-from l (v ∷ items) lower len each =
     let start : 0 * l ≡ 0 = omega arith in
     let first : low_bits l v ≡ take l lower = same_bits (low_bits l v) (take l lower) (length-low_bits l v ∙ sym front) (number_of-low_bits l v ∙ each 0 (omega arith) ∙ ap (λ n. number_of (take l (drop n lower))) start) in
     let others : fields l items ≡ drop l lower =
-      fields-from l items (drop l lower) (omega (arith, length-drop l lower, wide, len)) (λ i lt.
-        let far : l + i * l ≡ suc i * l = omega (arith, suc-mul i l) in
-        each (suc i) (omega arith) ∙ ap (λ bits. number_of (take l bits)) (ap (λ n. drop n lower) (sym far) ∙ sym (drop-drop (i * l) l lower))) in
+    fields-from l items (drop l lower) (omega (arith, length-drop l lower, wide, len)) (λ i lt.
+    let far : l + i * l ≡ suc i * l = omega (arith, suc-mul i l) in
+    each (suc i) (omega arith) ∙ ap (λ bits. number_of (take l bits)) (ap (λ n. drop n lower) (sym far) ∙ sym (drop-drop (i * l) l lower))) in
     rw (first, others) (take-append-drop l lower)

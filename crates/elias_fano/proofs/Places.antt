@@ -105,5 +105,5 @@ pub take-items_of : (p : Parts) (i item : ℕ) → 0 < i → i ≤ p.count → i
 take-items_of p i item pos le is =
     let e : i ≡ (i - 1) + 1 = omega arith in
     let more : take i (items_of p) ≡ take (i - 1) (items_of p) ++ item ∷ [] =
-      ap (λ n. take n (items_of p)) e ∙ take_more (items_of p) (i - 1) 0 (omega (arith, length-items_of p)) ∙ ap (λ x. take (i - 1) (items_of p) ++ x ∷ []) (get_or-items_of p (i - 1) (omega arith) ∙ sym is) in
+    ap (λ n. take n (items_of p)) e ∙ take_more (items_of p) (i - 1) 0 (omega (arith, length-items_of p)) ∙ ap (λ x. take (i - 1) (items_of p) ++ x ∷ []) (get_or-items_of p (i - 1) (omega arith) ∙ sym is) in
     ap reverse more ∙ reverse-append (take (i - 1) (items_of p)) (item ∷ [])

@@ -38,14 +38,14 @@ items_again l items can =
     let p = parts_for l items in
     let n = length-items_of p in
     ext_get_or 0 (items_of p) items n (λ i lt.
-      let within : i < length items = omega (arith, n) in
-      let v : ℕ = get_or items i 0 in
-      let place = place-walk l 0 items i (highs l items can.ascends) within in
-      let spot = ap (λ bits. place_of_one bits i) (walk-all l items can.some can.ascends) in
-      let field : number_of (take l (drop (i * l) (lower_bits l items))) ≡ v % 2 ^ l =
-        ap (λ bits. number_of (take l (drop (i * l) bits))) (sym (fields-lower l items)) ∙ ap number_of (field-fields l items i within) ∙ number_of-low_bits l v in
-      let high : place_of_one (upper_bits l items) i - i ≡ v / 2 ^ l = omega (arith, place, spot) in
-      get_or-items_of p i within ∙ ap (λ h. h * 2 ^ l + number_of (take l (drop (i * l) (lower_bits l items)))) high ∙ ap (λ f. v / 2 ^ l * 2 ^ l + f) field ∙ shr_split v l)
+    let within : i < length items = omega (arith, n) in
+    let v : ℕ = get_or items i 0 in
+    let place = place-walk l 0 items i (highs l items can.ascends) within in
+    let spot = ap (λ bits. place_of_one bits i) (walk-all l items can.some can.ascends) in
+    let field : number_of (take l (drop (i * l) (lower_bits l items))) ≡ v % 2 ^ l =
+    ap (λ bits. number_of (take l (drop (i * l) bits))) (sym (fields-lower l items)) ∙ ap number_of (field-fields l items i within) ∙ number_of-low_bits l v in
+    let high : place_of_one (upper_bits l items) i - i ≡ v / 2 ^ l = omega (arith, place, spot) in
+    get_or-items_of p i within ∙ ap (λ h. h * 2 ^ l + number_of (take l (drop (i * l) (lower_bits l items)))) high ∙ ap (λ f. v / 2 ^ l * 2 ^ l + f) field ∙ shr_split v l)
 
 -- and have nothing wrong
 items_fine : (l : ℕ) (items : List ℕ) → IsListable items → item_fault (last_of items) (parts_for l items) ≡ None
@@ -112,22 +112,22 @@ read_back items bytes can e =
     let up_text : bits_of (text_of up) ≡ up ++ replicate (8 * bytes_for (length up) - length up) false = bits_of-bytes_from (bytes_for (length up)) up (omega arith) in
     let bits : bits_of (drop 16 bytes) ≡ bits_of (text_of low) ++ bits_of (text_of up) = ap bits_of s.parts ∙ bits_of-append (text_of low) (text_of up) in
     let lower : take (lower_len_in bytes) (bits_of (drop 16 bytes)) ≡ low =
-      ap (λ x. take x (bits_of (drop 16 bytes))) (low_len ∙ sym n-is) ∙ ap (take (length low)) bits ∙ take-append-le (length low) (bits_of (text_of low)) (bits_of (text_of up)) (omega (arith, length-bits_of (text_of low), low_bytes, n-is)) ∙ bits_of-text_of low in
+    ap (λ x. take x (bits_of (drop 16 bytes))) (low_len ∙ sym n-is) ∙ ap (take (length low)) bits ∙ take-append-le (length low) (bits_of (text_of low)) (bits_of (text_of up)) (omega (arith, length-bits_of (text_of low), low_bytes, n-is)) ∙ bits_of-text_of low in
     let upper : take (upper_len_in bytes) (bits_of (drop (upper_start_in bytes) bytes)) ≡ up =
-      ap (λ x. take x (bits_of (drop (upper_start_in bytes) bytes))) (up_len ∙ sym m-is) ∙ ap (λ x. take (length up) (bits_of (drop x bytes))) start ∙ ap (λ x. take (length up) (bits_of x)) behind ∙ bits_of-text_of up in
+    ap (λ x. take x (bits_of (drop (upper_start_in bytes) bytes))) (up_len ∙ sym m-is) ∙ ap (λ x. take (length up) (bits_of (drop x bytes))) start ∙ ap (λ x. take (length up) (bits_of x)) behind ∙ bits_of-text_of up in
     let parts : parts_in bytes ≡ parts_for l items = parts_are bytes l items s.count width lower upper in
     let z : ℕ = 8 * bytes_for (length low) - length low in
     let y : ℕ = 8 * bytes_for (length up) - length up in
     let gap : 8 * upper_start_in bytes - (128 + lower_len_in bytes) ≡ z = omega (arith, start, low_len, n-is, ap bytes_for n-is) in
     let tail : drop (128 + lower_len_in bytes) (bits_of bytes) ≡ replicate z false ++ bits_of (text_of up) =
-      sym (drop-drop (lower_len_in bytes) 128 (bits_of bytes)) ∙ ap (drop (lower_len_in bytes)) (sym (bits_of-drop 16 bytes) ∙ bits ∙ ap (λ bs. bs ++ bits_of (text_of up)) low_text ∙ append_assoc low (replicate z false) (bits_of (text_of up))) ∙ drop_at low (replicate z false ++ bits_of (text_of up)) (lower_len_in bytes) (n-is ∙ sym low_len) in
+    sym (drop-drop (lower_len_in bytes) 128 (bits_of bytes)) ∙ ap (drop (lower_len_in bytes)) (sym (bits_of-drop 16 bytes) ∙ bits ∙ ap (λ bs. bs ++ bits_of (text_of up)) low_text ∙ append_assoc low (replicate z false) (bits_of (text_of up))) ∙ drop_at low (replicate z false ++ bits_of (text_of up)) (lower_len_in bytes) (n-is ∙ sym low_len) in
     let first : first_one (bits_of bytes) (128 + lower_len_in bytes) (8 * upper_start_in bytes) ≡ None =
-      no_one (bits_of bytes) (128 + lower_len_in bytes) (8 * upper_start_in bytes) z (ap (λ x. take x (drop (128 + lower_len_in bytes) (bits_of bytes))) gap ∙ ap (take z) tail ∙ take_at (replicate z false) (bits_of (text_of up)) z (length-replicate {A = Bool} z false)) in
+    no_one (bits_of bytes) (128 + lower_len_in bytes) (8 * upper_start_in bytes) z (ap (λ x. take x (drop (128 + lower_len_in bytes) (bits_of bytes))) gap ∙ ap (take z) tail ∙ take_at (replicate z false) (bits_of (text_of up)) z (length-replicate {A = Bool} z false)) in
     let end : drop (8 * upper_start_in bytes + upper_len_in bytes) (bits_of bytes) ≡ replicate y false =
-      sym (drop-drop (upper_len_in bytes) (8 * upper_start_in bytes) (bits_of bytes)) ∙ ap (drop (upper_len_in bytes)) (sym (bits_of-drop (upper_start_in bytes) bytes) ∙ ap (λ x. bits_of (drop x bytes)) start ∙ ap bits_of behind ∙ up_text) ∙ drop_at up (replicate y false) (upper_len_in bytes) (m-is ∙ sym up_len) in
+    sym (drop-drop (upper_len_in bytes) (8 * upper_start_in bytes) (bits_of bytes)) ∙ ap (drop (upper_len_in bytes)) (sym (bits_of-drop (upper_start_in bytes) bytes) ∙ ap (λ x. bits_of (drop x bytes)) start ∙ ap bits_of behind ∙ up_text) ∙ drop_at up (replicate y false) (upper_len_in bytes) (m-is ∙ sym up_len) in
     let room : 8 * asked_in bytes - (8 * upper_start_in bytes + upper_len_in bytes) ≡ y = omega (arith, start, asked, up_len, m-is, ap bytes_for m-is) in
     let second : first_one (bits_of bytes) (8 * upper_start_in bytes + upper_len_in bytes) (8 * asked_in bytes) ≡ None =
-      no_one (bits_of bytes) (8 * upper_start_in bytes + upper_len_in bytes) (8 * asked_in bytes) y (ap (λ x. take x (drop (8 * upper_start_in bytes + upper_len_in bytes) (bits_of bytes))) room ∙ ap (take y) end ∙ take_all y (replicate y false) (omega (arith, length-replicate {A = Bool} y false))) in
+    no_one (bits_of bytes) (8 * upper_start_in bytes + upper_len_in bytes) (8 * asked_in bytes) y (ap (λ x. take x (drop (8 * upper_start_in bytes + upper_len_in bytes) (bits_of bytes))) room ∙ ap (take y) end ∙ take_all y (replicate y false) (omega (arith, length-replicate {A = Bool} y false))) in
     let unused : unused_one bytes ≡ None = ap (λ o. option_or o (first_one (bits_of bytes) (8 * upper_start_in bytes + upper_len_in bytes) (8 * asked_in bytes))) first ∙ second in
     let fine : item_fault (last_in bytes) (parts_in bytes) ≡ None = ap (λ p. item_fault (last_in bytes) p) parts ∙ ap (λ x. item_fault x (parts_for l items)) s.last ∙ items_fine l items can in
     let some : 0 < count_in bytes = omega (arith, s.count, can.some) in

@@ -54,7 +54,7 @@ lower_held bytes size unused =
     let gap : 8 * upper_start_in bytes - (128 + n) ≡ 8 * k - n = omega arith in
     let bits : bits_of part ≡ take (8 * k) (drop 128 (bits_of bytes)) = bits_of-take k (drop 16 bytes) ∙ ap (take (8 * k)) (bits_of-drop 16 bytes) in
     let rest : drop n (bits_of part) ≡ take (8 * upper_start_in bytes - (128 + n)) (drop (128 + n) (bits_of bytes)) =
-      ap (drop n) bits ∙ ap (λ m. drop n (take m (drop 128 (bits_of bytes)))) to ∙ drop-take n (8 * k - n) (drop 128 (bits_of bytes)) ∙ ap (take (8 * k - n)) (drop-drop n 128 (bits_of bytes)) ∙ ap (λ m. take m (drop (128 + n) (bits_of bytes))) (sym gap) in
+    ap (drop n) bits ∙ ap (λ m. drop n (take m (drop 128 (bits_of bytes)))) to ∙ drop-take n (8 * k - n) (drop 128 (bits_of bytes)) ∙ ap (take (8 * k - n)) (drop-drop n 128 (bits_of bytes)) ∙ ap (λ m. take m (drop (128 + n) (bits_of bytes))) (sym gap) in
     let zeros = no_position (128 + n) (take (8 * upper_start_in bytes - (128 + n)) (drop (128 + n) (bits_of bytes))) none in
     held_from_zeros n part len (rest ∙ zeros ∙ ap (λ bs. replicate (length bs) false) (sym rest))
 
@@ -68,7 +68,7 @@ upper_held bytes size unused =
     let len : length part ≡ bytes_for n = omega (arith, length-drop s bytes, size) in
     let rest : drop n (bits_of part) ≡ drop (8 * s + n) (bits_of bytes) = ap (drop n) (bits_of-drop s bytes) ∙ drop-drop n (8 * s) (bits_of bytes) in
     let all : take (8 * asked_in bytes - (8 * s + n)) (drop (8 * s + n) (bits_of bytes)) ≡ drop (8 * s + n) (bits_of bytes) =
-      take_all (8 * asked_in bytes - (8 * s + n)) (drop (8 * s + n) (bits_of bytes)) (omega (arith, length-drop (8 * s + n) (bits_of bytes), length-bits_of bytes, size)) in
+    take_all (8 * asked_in bytes - (8 * s + n)) (drop (8 * s + n) (bits_of bytes)) (omega (arith, length-drop (8 * s + n) (bits_of bytes), length-bits_of bytes, size)) in
     let zeros = no_position (8 * s + n) (take (8 * asked_in bytes - (8 * s + n)) (drop (8 * s + n) (bits_of bytes))) none in
     held_from_zeros n part len (rest ∙ sym all ∙ zeros ∙ ap (λ bs. replicate (length bs) false) (all ∙ sym rest))
 
@@ -77,7 +77,7 @@ lower_is : (p : Parts) → length p.lower ≡ p.count * p.width → lower_bits p
 lower_is p low =
     let n = length-items_of p in
     sym (fields-lower p.width (items_of p)) ∙ fields-from p.width (items_of p) p.lower (low ∙ ap (λ m. m * p.width) (sym n))
-      (λ i lt. let within : i < p.count = omega (arith, n) in ap (λ x. x % 2 ^ p.width) (get_or-items_of p i within) ∙ (item-parts p i low within).1)
+    (λ i lt. let within : i < p.count = omega (arith, n) in ap (λ x. x % 2 ^ p.width) (get_or-items_of p i within) ∙ (item-parts p i low within).1)
 
 pub length-upper : (l : ℕ) (items : List ℕ) → length (upper_bits l items) ≡ upper_len l (length items) (last_of items)
 unfolding upper_bits
@@ -90,7 +90,7 @@ upper_is p last some low up ones ends ascends =
     let items = items_of p in
     let n = length-items_of p in
     let from = walk-from l 0 p.upper items (n ∙ sym ones)
-      (λ i lt. let within : i < p.count = omega (arith, n) in ap (λ x. x / 2 ^ l) (get_or-items_of p i within) ∙ (item-parts p i low within).0 ∙ (omega arith)) in
+    (λ i lt. let within : i < p.count = omega (arith, n) in ap (λ x. x / 2 ^ l) (get_or-items_of p i within) ∙ (item-parts p i low within).0 ∙ (omega arith)) in
     let z : ℕ = from.1.0 in
     let whole : walk l 0 items ≡ upper_bits l items = walk-all l items (omega (arith, n)) ascends in
     let size : length (upper_bits l items) ≡ upper_len l (length items) (last_of items) = length-upper l items in
@@ -122,10 +122,10 @@ is_spelled bytes fits short fine =
     let up_part = drop (upper_start_in bytes) bytes in
     let fits_low : IsBytes low_part = IsBytes-take k (drop 16 bytes) (IsBytes-drop 16 bytes fits) in
     let low_bits_are : take (lower_len_in bytes) (bits_of low_part) ≡ p.lower =
-      ap (take (lower_len_in bytes)) (bits_of-take k (drop 16 bytes)) ∙ take-take (lower_len_in bytes) (8 * k) (bits_of (drop 16 bytes)) (omega arith) in
+    ap (take (lower_len_in bytes)) (bits_of-take k (drop 16 bytes)) ∙ take-take (lower_len_in bytes) (8 * k) (bits_of (drop 16 bytes)) (omega arith) in
     let low : text_of (lower_bits (width_in bytes) items) ≡ low_part = ap text_of (lower_is p (lower-len bytes fine.size) ∙ sym low_bits_are) ∙ text_of-held (lower_len_in bytes) low_part fits_low (lower_held bytes fine.size fine.unused) in
     let up : text_of (upper_bits (width_in bytes) items) ≡ up_part =
-      ap text_of (upper_is p (last_in bytes) fine.some (lower-len bytes fine.size) (upper-len bytes fine.size) none.0 ends list.ascends) ∙ text_of-held (upper_len_in bytes) up_part (IsBytes-drop (upper_start_in bytes) bytes fits) (upper_held bytes fine.size fine.unused) in
+    ap text_of (upper_is p (last_in bytes) fine.some (lower-len bytes fine.size) (upper-len bytes fine.size) none.0 ends list.ascends) ∙ text_of-held (upper_len_in bytes) up_part (IsBytes-drop (upper_start_in bytes) bytes fits) (upper_held bytes fine.size fine.unused) in
     let first : to_be_bytes w64 (length items) ≡ take 8 bytes = ap (to_be_bytes w64) n ∙ be_bytes_8 (take 8 bytes) (count_in bytes) (omega (arith, length-take 8 bytes, fine.size)) (IsBytes-take 8 bytes fits) refl in
     let second : to_be_bytes w64 (last_of items) ≡ take 8 (drop 8 bytes) = ap (to_be_bytes w64) ends ∙ be_bytes_8 (take 8 (drop 8 bytes)) (last_in bytes) (omega (arith, length-take 8 (drop 8 bytes), length-drop 8 bytes, fine.size)) (IsBytes-take 8 (drop 8 bytes) (IsBytes-drop 8 bytes fits)) refl in
     let cut : take 8 bytes ++ (take 8 (drop 8 bytes) ++ (low_part ++ up_part)) ≡ bytes = cut_whole k bytes in

@@ -61,20 +61,20 @@ get_or-walk l high i k (v ∷ items) up =
     let size : length zeros ≡ g = length-replicate {A = Bool} g false in
     elim (cases_order k g) [
       | inl e ↦
-        let none_left : k - g ≡ 0 = omega arith in
-        let left : get_or (zeros ++ true ∷ rest) k false ≡ true = get_or-append_right zeros (true ∷ rest) g k false size (omega arith) ∙ ap (λ n. get_or (true ∷ rest) n false) none_left in
-        left ∙ sym (rw (eq-eqb (h + i) j (omega (arith, up.0))) refl)
+          let none_left : k - g ≡ 0 = omega arith in
+          let left : get_or (zeros ++ true ∷ rest) k false ≡ true = get_or-append_right zeros (true ∷ rest) g k false size (omega arith) ∙ ap (λ n. get_or (true ∷ rest) n false) none_left in
+          left ∙ sym (rw (eq-eqb (h + i) j (omega (arith, up.0))) refl)
       | inr other ↦ elim other [
-      | inl lt ↦
-        let left : get_or (zeros ++ true ∷ rest) k false ≡ false = get_or_append_left zeros (true ∷ rest) false k (omega (arith, size)) ∙ get_or-replicate g k false false lt in
-        left ∙ sym (rw (ne_eqb (h + i) j (λ e. omega (arith, up.0)), none_below l h (i + 1) j items up.1 (omega (arith, up.0))) refl)
+        | inl lt ↦
+            let left : get_or (zeros ++ true ∷ rest) k false ≡ false = get_or_append_left zeros (true ∷ rest) false k (omega (arith, size)) ∙ get_or-replicate g k false false lt in
+            left ∙ sym (rw (ne_eqb (h + i) j (λ e. omega (arith, up.0)), none_below l h (i + 1) j items up.1 (omega (arith, up.0))) refl)
         | inr gt ↦
-          let m : ℕ = k - g - 1 in
-          let next : k - g ≡ suc m = omega arith in
-          let same : j ≡ h + (i + 1) + m = omega (arith, up.0) in
-          let left : get_or (zeros ++ true ∷ rest) k false ≡ get_or rest m false = get_or-append_right zeros (true ∷ rest) g k false size (omega arith) ∙ ap (λ n. get_or (true ∷ rest) n false) next in
-          left ∙ get_or-walk l h (i + 1) m items up.1 ∙ ap (λ n. one_at l n (i + 1) items) (sym same) ∙ sym (rw (ne_eqb (h + i) j (λ e. omega (arith, up.0))) refl)
-        ]
+            let m : ℕ = k - g - 1 in
+            let next : k - g ≡ suc m = omega arith in
+            let same : j ≡ h + (i + 1) + m = omega (arith, up.0) in
+            let left : get_or (zeros ++ true ∷ rest) k false ≡ get_or rest m false = get_or-append_right zeros (true ∷ rest) g k false size (omega arith) ∙ ap (λ n. get_or (true ∷ rest) n false) next in
+            left ∙ get_or-walk l h (i + 1) m items up.1 ∙ ap (λ n. one_at l n (i + 1) items) (sym same) ∙ sym (rw (ne_eqb (h + i) j (λ e. omega (arith, up.0))) refl)
+      ]
     ]
 
 -- the steps are the upper part

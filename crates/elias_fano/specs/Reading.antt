@@ -90,7 +90,7 @@ first_one bits from to = position_from (λ bit. bit) from (take (to - from) (dro
 abbrev pub unused_one : List ℕ → Option ℕ
 unused_one bytes =
     option_or (first_one (bits_of bytes) (128 + lower_len_in bytes) (8 * upper_start_in bytes))
-      (first_one (bits_of bytes) (8 * upper_start_in bytes + upper_len_in bytes) (8 * asked_in bytes))
+    (first_one (bits_of bytes) (8 * upper_start_in bytes + upper_len_in bytes) (8 * asked_in bytes))
 
 -- the first item, from place i on, that is below the one before
 unfoldable pub first_descent : ℕ → ℕ → List ℕ → Option ℕ
@@ -101,7 +101,7 @@ first_descent before i (item ∷ items) = if nat_lt item before then Some i else
 abbrev pub item_fault : ℕ → Parts → Option EfError
 item_fault last p =
     if ones_of p.upper == p.count then
-      option_or (option_map (λ i. Descends i) (first_descent 0 0 (items_of p))) (if last_of (items_of p) == last then None else Some (Last last (last_of (items_of p))))
+    option_or (option_map (λ i. Descends i) (first_descent 0 0 (items_of p))) (if last_of (items_of p) == last then None else Some (Last last (last_of (items_of p))))
     else Some (Count p.count (ones_of p.upper))
 
 -- what is wrong first

@@ -7,12 +7,11 @@ use std::process::Abort;
 use std::test::*;
 
 const ONE_ZERO: [u8; 17] = [0, 0, 0, 0, 0, 0, 0, 1, 0, 0, 0, 0, 0, 0, 0, 0, 1];
-const FIVE_AND_NINE: [u8; 18] = [
-    0, 0, 0, 0, 0, 0, 0, 2, 0, 0, 0, 0, 0, 0, 0, 9, 0x05, 0x0a,
-];
-const SEVEN_TWICE: [u8; 18] = [
-    0, 0, 0, 0, 0, 0, 0, 2, 0, 0, 0, 0, 0, 0, 0, 7, 0x03, 0x18,
-];
+
+const FIVE_AND_NINE: [u8; 18] = [0, 0, 0, 0, 0, 0, 0, 2, 0, 0, 0, 0, 0, 0, 0, 9, 0x05, 0x0a];
+
+const SEVEN_TWICE: [u8; 18] = [0, 0, 0, 0, 0, 0, 0, 2, 0, 0, 0, 0, 0, 0, 0, 7, 0x03, 0x18];
+
 const LARGE: [u8; 25] = [
     0, 0, 0, 0, 0, 0, 0, 1, 0x40, 0, 0, 0, 0, 0, 0, 0, 0, 0, 0, 0, 0, 0, 0, 0, 2,
 ];
@@ -70,9 +69,15 @@ fn lists_are_spelled_and_read(rt: HostRuntime) -> Result<(), Fail> {
 #[test]
 fn bytes_behind_the_end_are_refused(rt: HostRuntime) {
     let longer = [0, 0, 0, 0, 0, 0, 0, 1, 0, 0, 0, 0, 0, 0, 0, 0, 1, 0];
-    assert_eq!(rt; EfList::check(&longer).err(), Some(EfError::Extra { at: 17 }));
+    assert_eq!(rt;
+        EfList::check(&longer).err(),
+        Some(EfError::Extra { at: 17 })
+    );
     let unused = [0, 0, 0, 0, 0, 0, 0, 1, 0, 0, 0, 0, 0, 0, 0, 0, 3];
-    assert_eq!(rt; EfList::check(&unused).err(), Some(EfError::Unused { bit: 129 }));
+    assert_eq!(rt;
+        EfList::check(&unused).err(),
+        Some(EfError::Unused { bit: 129 })
+    );
     let none = [0; 16];
     assert_eq!(rt; EfList::check(&none).err(), Some(EfError::Zero));
 }
@@ -82,7 +87,12 @@ fn items_are_found(rt: HostRuntime) -> Result<(), Fail> {
     let list = EfList::check(&FIVE_AND_NINE).ok().ok_or("no list")?;
     assert_eq!(rt; list.len(), 2);
     assert_eq!(rt; list.get(1), 9);
-    for (at, found) in [(0, Some((0, 5))), (5, Some((0, 5))), (6, Some((1, 9))), (10, None)] {
+    for (at, found) in [
+        (0, Some((0, 5))),
+        (5, Some((0, 5))),
+        (6, Some((1, 9))),
+        (10, None),
+    ] {
         assert_eq!(rt; list.seek(at), found);
     }
     assert_eq!(rt; list.iter_from(1).next(), Some(9));

@@ -17,7 +17,11 @@ item-item-requires-clause-sound c =
     let p = c.args.parts.now in
     let whole : ones_of p.upper ≡ p.count = ap ones_of (sym (take_all c.len.result p.upper (omega (arith, c.len.ensures)))) ∙ sym c.ones_before-found.ensures ∙ c.if-found-said.false in
     record {
-      lower = c.requires.lower; fits = c.requires.fits; narrow = c.requires.narrow; room = c.requires.room; ones = whole;
+      lower = c.requires.lower;
+      fits = c.requires.fits;
+      narrow = c.requires.narrow;
+      room = c.requires.room;
+      ones = whole;
       small = λ i lt. item-small p c.args.last i c.requires.lower c.requires.upper whole c.requires.narrow c.ranges.last.fits lt;
     }
 
