@@ -6,7 +6,7 @@ use agg_outside::{Bytes, Memory, slice_fits};
 use std::alloc::Global;
 use std::marker::Model;
 
-// Beyond so many bits no vector has room; a list that long takes no more, so that its length stays a number.
+// More bits than any machine holds: a list that long takes no more, so that its length stays in 64 bits.
 const MOST_BITS: u64 = 1 << 62;
 
 /// A list of bits that grows at its end, as a text.

@@ -1,16 +1,16 @@
 -- From what is wrong to what is read.
-use Rattle.std.proofs.Common.{◌≡◌, ℕ, zero, suc, ◌+◌, ◌-◌, ◌*◌, ◌/◌, ◌%◌, ◌^◌, ◌<◌, ◌≤◌, Bool, true, false, cond, eqb, ltb, List, [], ◌∷◌, ◌++◌, length, take, drop, get_or, Option, Some, None, refl, sym, ap, ◌∙◌, subst, arith, inl, inr, eq-eqb}
+use Rattle.std.proofs.Common.{◌≡◌, ℕ, ◌^◌, ◌<◌, Bool, true, false, cond, eqb, List, length, take, drop, Option, Some, None, refl, sym, arith, eq-eqb}
 use Rattle.std.specs.Option.{option_or, option_map}
 use Rattle.std.specs.Int.{w64, from_be_bytes}
 use Rattle.std.proofs.lemmas.Bool.{le-ltb, ne_eqb, eqb-true}
 use Rattle.std.proofs.lemmas.List.{length-take, length-drop}
-use Rattle.bit_store.specs.Bits.{bits_of, ones_of, bytes_for}
+use Rattle.bit_store.specs.Bits.{bits_of, ones_of}
 use Rattle.bit_store.proofs.Texts.{IsBytes, length-bits_of, IsBytes-take, IsBytes-drop}
 use Rattle.elias_fano.specs.declared.parts.Parts.{Parts}
 use Rattle.elias_fano.specs.declared.error.EfError.{EfError}
 use Rattle.elias_fano.specs.declared.error.EfError.TheVariants.{Unused, Count, Descends, Last}
-use Rattle.elias_fano.specs.Spelling.{last_of, upper_len}
-use Rattle.elias_fano.specs.Reading.{items_of, first_descent, item_fault, fault_in, unused_one, count_in, last_in, width_in, lower_len_in, upper_len_in, upper_start_in, asked_in, parts_in, IsSound, IsListed}
+use Rattle.elias_fano.specs.Spelling.{last_of}
+use Rattle.elias_fano.specs.Reading.{items_of, first_descent, item_fault, fault_in, unused_one, count_in, last_in, width_in, lower_len_in, upper_len_in, upper_start_in, asked_in, parts_in, IsListed}
 use Rattle.elias_fano.proofs.Places.{item-small}
 use Rattle.elias_fano.proofs.Faults.{ascends-none, ascending}
 

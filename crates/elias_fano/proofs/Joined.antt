@@ -1,5 +1,5 @@
 -- The parts of a text, one put behind the other.
-use Rattle.std.proofs.Common.{◌≡◌, ◌++◌, ◌∙◌, [], ap, sym, refl, ℕ, List}
+use Rattle.std.proofs.Common.{◌≡◌, ◌++◌, ◌∙◌, [], ℕ, List}
 use Rattle.std.proofs.lemmas.List.{append_assoc}
 
 pub joined : (text t1 t2 t3 t4 a b c d : List ℕ) → text ≡ [] → t1 ≡ text ++ a → t2 ≡ t1 ++ b → t3 ≡ t2 ++ c → t4 ≡ t3 ++ d → t4 ≡ a ++ (b ++ (c ++ d))

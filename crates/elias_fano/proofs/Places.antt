@@ -1,16 +1,15 @@
 -- The places of the ones, and the items that are read there.
-use Rattle.std.proofs.Common.{◌≡◌, ℕ, zero, suc, ◌+◌, ◌-◌, ◌*◌, ◌/◌, ◌%◌, ◌^◌, ◌<◌, ◌≤◌, Bool, true, false, List, [], ◌∷◌, ◌++◌, Option, Some, None, reverse, length, take, drop, get_or, map, refl, sym, ap, ◌∙◌, subst, arith, inl, inr}
+use Rattle.std.proofs.Common.{◌≡◌, ℕ, zero, suc, ◌+◌, ◌-◌, ◌*◌, ◌/◌, ◌%◌, ◌^◌, ◌<◌, ◌≤◌, Bool, true, false, List, [], ◌∷◌, ◌++◌, Option, Some, None, reverse, length, take, drop, get_or, refl, sym, ap, ◌∙◌, arith}
 use Rattle.std.specs.Prelude.{IfNone, IsSome}
-use Rattle.std.specs.List.{range_with_len}
 use Rattle.std.proofs.Math.Nat.{mul-le-mul_right, mul_comm}
-use Rattle.std.proofs.lemmas.Nat.{shr_split, pow_pos, pow-add, mul-add-lt, div-mul-add, mod-mul-add, div_below}
+use Rattle.std.proofs.lemmas.Nat.{pow_pos, pow-add, mul-add-lt, div-mul-add, mod-mul-add, div_below}
 use Rattle.std.proofs.lemmas.List.{length-take, length-drop, drop_more, take_more, reverse-append}
 use Rattle.std.proofs.lemmas.List.FromFn.{length-map-range_with_len, get_or-map-range_with_len}
-use Rattle.bit_store.specs.Bits.{digit, number_of, ones_of, IsOneAt}
+use Rattle.bit_store.specs.Bits.{number_of, ones_of, IsOneAt}
 use Rattle.bit_store.proofs.Numbers.{number_of-lt, ones_of-le, ones_of-split, ones_of-append}
 use Rattle.elias_fano.specs.declared.parts.Parts.{Parts}
 use Rattle.elias_fano.specs.Spelling.{upper_len}
-use Rattle.elias_fano.specs.Reading.{place_of_one, item_at, items_of, IsSound}
+use Rattle.elias_fano.specs.Reading.{place_of_one, item_at, items_of}
 
 -- a 1 with so many ones before it
 pub place-is : (bits : List Bool) (k p : ℕ) → IsOneAt bits p → ones_of (take p bits) ≡ k → place_of_one bits k ≡ p

@@ -1,19 +1,19 @@
 -- The text of a list is read as that list.
-use Rattle.std.proofs.Common.{◌≡◌, ℕ, zero, suc, ◌+◌, ◌-◌, ◌*◌, ◌/◌, ◌%◌, ◌^◌, ◌<◌, ◌≤◌, Bool, true, false, List, [], ◌∷◌, ◌++◌, length, take, drop, get_or, replicate, Option, Some, None, refl, sym, ap, ◌∙◌, subst, arith, inl, inr}
+use Rattle.std.proofs.Common.{◌≡◌, ℕ, ◌+◌, ◌-◌, ◌*◌, ◌/◌, ◌%◌, ◌^◌, ◌<◌, Bool, false, List, ◌++◌, length, take, drop, get_or, replicate, None, refl, sym, ap, ◌∙◌, arith}
 use Rattle.std.specs.List.{position_from}
 use Rattle.std.specs.Option.{option_or, option_map}
 use Rattle.std.specs.Int.{w64, from_be_bytes, to_be_bytes}
 use Rattle.std.proofs.lemmas.Nat.{from_be_bytes-to_be_bytes_8, shr_split}
-use Rattle.std.proofs.lemmas.List.{length-take, length-drop, length-append, length-replicate, take_at, drop_at, drop-drop, take-append-le, append_assoc, drop_all, take_all, ext_get_or}
-use Rattle.bit_store.specs.Bits.{number_of, bits_of, ones_of, bytes_for, bytes_from, text_of, low_bits}
+use Rattle.std.proofs.lemmas.List.{length-drop, length-append, length-replicate, take_at, drop_at, drop-drop, take-append-le, append_assoc, take_all, ext_get_or}
+use Rattle.bit_store.specs.Bits.{number_of, bits_of, ones_of, bytes_for, text_of}
 use Rattle.bit_store.proofs.Numbers.{number_of-low_bits}
 use Rattle.bit_store.proofs.Texts.{length-bits_of, bits_of-drop, bits_of-append, bits_of-bytes_from, bits_of-text_of, length-bytes_from}
 use Rattle.elias_fano.specs.declared.parts.Parts.{Parts}
 use Rattle.elias_fano.specs.declared.error.EfError.TheVariants.{Unused}
 use Rattle.elias_fano.specs.Spelling.{IsListable, spelling, last_of, low_width, lower_bits, upper_bits, upper_len}
-use Rattle.elias_fano.specs.Reading.{items_of, item_at, item_fault, fault_in, place_of_one, first_one, unused_one, count_in, last_in, width_in, lower_len_in, upper_len_in, upper_start_in, asked_in, parts_in}
-use Rattle.elias_fano.proofs.Lower.{fields, fields-lower, field-fields, length-fields}
-use Rattle.elias_fano.proofs.Upper.{walk, walk-all, ones_of-walk, place-walk, highs}
+use Rattle.elias_fano.specs.Reading.{items_of, item_fault, fault_in, place_of_one, first_one, unused_one, count_in, last_in, width_in, lower_len_in, upper_len_in, upper_start_in, asked_in, parts_in}
+use Rattle.elias_fano.proofs.Lower.{fields-lower, field-fields, length-fields}
+use Rattle.elias_fano.proofs.Upper.{walk-all, ones_of-walk, place-walk, highs}
 use Rattle.elias_fano.proofs.Places.{length-items_of, get_or-items_of}
 use Rattle.elias_fano.proofs.Faults.{position-none, none-ascends, ascends-from}
 use Rattle.elias_fano.proofs.Checked.{fault-none, fault-late}

@@ -1,5 +1,5 @@
 -- Two texts, byte by byte.
-use Rattle.std.proofs.Common.{◌≡◌, ℕ, List, [], ◌∷◌, refl}
+use Rattle.std.proofs.Common.{◌≡◌, [], ◌∷◌, refl}
 use Rattle.bit_store.specs.Bits.{bytes_from, number_of}
 use Rattle.elias_fano.specs.Spelling.{spelling, halvings, lower_bits, upper_bits}
 

@@ -1,22 +1,20 @@
 -- Bytes with nothing wrong are the text of their items, and the text of a list has nothing wrong.
-use Rattle.std.proofs.Common.{◌≡◌, ℕ, zero, suc, ◌+◌, ◌-◌, ◌*◌, ◌/◌, ◌%◌, ◌^◌, ◌<◌, ◌≤◌, Bool, true, false, cond, eqb, List, [], ◌∷◌, ◌++◌, length, take, drop, get_or, replicate, Option, Some, None, refl, sym, ap, ◌∙◌, subst, arith, inl, inr}
+use Rattle.std.proofs.Common.{◌≡◌, ℕ, ◌+◌, ◌-◌, ◌*◌, ◌/◌, ◌%◌, ◌^◌, ◌<◌, Bool, true, false, List, [], ◌∷◌, ◌++◌, length, take, drop, replicate, Option, Some, None, refl, sym, ap, ◌∙◌, arith}
 use Rattle.std.specs.List.{position_from}
 use Rattle.std.specs.List.Sorted.{IsNonDecreasing}
-use Rattle.std.specs.Option.{option_or, option_map}
-use Rattle.std.specs.Int.{w64, from_be_bytes, to_be_bytes}
-use Rattle.std.proofs.Math.Nat.{mod-eq_of_lt}
-use Rattle.std.proofs.lemmas.Nat.{be_bytes_8, from_be_bytes-to_be_bytes_8, shr_split}
-use Rattle.std.proofs.lemmas.List.{length-take, length-drop, length-append, length-replicate, take-append-drop, take_all, take_at, drop_at, drop-drop, drop-take, take-take, take-append-le, append-nil, append_assoc, nil_from_length}
+use Rattle.std.specs.Option.{option_or}
+use Rattle.std.specs.Int.{w64, to_be_bytes}
+use Rattle.std.proofs.lemmas.Nat.{be_bytes_8}
+use Rattle.std.proofs.lemmas.List.{length-take, length-drop, length-append, length-replicate, take-append-drop, take_all, drop-drop, drop-take, take-take, append-nil}
 use Rattle.std.proofs.lemmas.List.FromFn.{length-map-range_with_len}
-use Rattle.bit_store.specs.Bits.{number_of, bits_of, ones_of, bytes_for, bytes_from, text_of, IsHeld}
-use Rattle.bit_store.proofs.Numbers.{number_of-take, number_of-append, number_of-replicate, number_of-lt}
-use Rattle.bit_store.proofs.Texts.{IsBytes, IsBytes-take, IsBytes-drop, length-bits_of, bits_of-take, bits_of-drop, bits_of-append, bits_of-bytes_from, bits_of-text_of, length-bytes_from, text_of-held}
-use Rattle.bit_store.proofs.Views.{part_of_front}
+use Rattle.bit_store.specs.Bits.{number_of, bits_of, ones_of, bytes_for, text_of, IsHeld}
+use Rattle.bit_store.proofs.Numbers.{number_of-append, number_of-replicate, number_of-lt}
+use Rattle.bit_store.proofs.Texts.{IsBytes, IsBytes-take, IsBytes-drop, length-bits_of, bits_of-take, bits_of-drop, text_of-held}
 use Rattle.elias_fano.specs.declared.parts.Parts.{Parts}
 use Rattle.elias_fano.specs.Spelling.{IsListable, spelling, spelled, last_of, low_width, lower_bits, upper_bit, upper_bits, upper_len}
-use Rattle.elias_fano.specs.Reading.{items_of, item_at, place_of_one, first_one, unused_one, count_in, last_in, width_in, lower_len_in, upper_len_in, upper_start_in, asked_in, parts_in, IsFine, IsListed}
-use Rattle.elias_fano.proofs.Lower.{fields, fields-lower, fields-from, length-fields}
-use Rattle.elias_fano.proofs.Upper.{walk, HighsFrom, walk-from, walk-upper, walk-all, length-walk, highs, top-last}
+use Rattle.elias_fano.specs.Reading.{items_of, first_one, unused_one, count_in, last_in, width_in, lower_len_in, upper_len_in, upper_start_in, asked_in, parts_in, IsFine}
+use Rattle.elias_fano.proofs.Lower.{fields-lower, fields-from}
+use Rattle.elias_fano.proofs.Upper.{walk, walk-from, walk-all}
 use Rattle.elias_fano.proofs.Places.{item-parts, length-items_of, get_or-items_of}
 use Rattle.elias_fano.proofs.Checked.{none-fault, lower-len, upper-len, listed, word_below}
 use Rattle.elias_fano.proofs.Joined.{same_parts}

@@ -1,8 +1,8 @@
-use Rattle.std.proofs.Common.{◌≡◌, ◌∙◌, ap, sym, refl, arith, Some, None, ℕ, List}
+use Rattle.std.proofs.Common.{◌≡◌, ◌∙◌, ap, sym, refl, arith, Some, None}
 use Rattle.std.specs.Option.{option_or, option_map}
 use Rattle.elias_fano.specs.declared.error.EfError.TheVariants.{Unused}
 use Rattle.bit_store.proofs.Texts.{IsBytes}
-use Rattle.elias_fano.specs.Reading.{item_fault, parts_in, last_in, IsListed}
+use Rattle.elias_fano.specs.Reading.{item_fault, parts_in, last_in}
 use Rattle.elias_fano.proofs.Checked.{fault-late, lower-len, upper-len, listed}
 use Rattle.elias_fano.proofs.list.checked.Goals as goal
 

@@ -1,9 +1,9 @@
-use Rattle.std.proofs.Common.{◌≡◌, ◌≤◌, ◌<◌, ◌+◌, ◌∙◌, ap, sym, refl, arith, ℕ, take, drop, length, get_or}
-use Rattle.std.proofs.lemmas.List.{take_all, drop_all}
+use Rattle.std.proofs.Common.{◌≡◌, ◌≤◌, ◌<◌, ◌∙◌, ap, sym, refl, arith, length, get_or}
+use Rattle.std.proofs.lemmas.List.{take_all}
 use Rattle.bit_store.specs.Bits.{ones_of}
 use Rattle.bit_store.proofs.Views.{ones_of-nil}
 use Rattle.elias_fano.specs.Spelling.{last_of}
-use Rattle.elias_fano.specs.Reading.{IsSound, items_of, first_descent}
+use Rattle.elias_fano.specs.Reading.{items_of, first_descent}
 use Rattle.elias_fano.proofs.Places.{item-small, next-place, ones-past, length-items_of, get_or-items_of}
 use Rattle.elias_fano.proofs.Faults.{descent-more, descent-here, last-more, ended}
 use Rattle.elias_fano.proofs.Checked.{fault-descends, fault-last, fault-none}

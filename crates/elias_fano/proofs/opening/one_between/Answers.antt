@@ -1,4 +1,4 @@
-use Rattle.std.proofs.Common.{◌≡◌, ◌≤◌, length, take, Option, Some, None, ℕ, List, Bool, arith, ap, ◌∙◌, sym}
+use Rattle.std.proofs.Common.{◌≡◌, ◌≤◌, length, take, Option, Some, None, ℕ, List, Bool, arith, ap, sym}
 use Rattle.std.specs.Prelude.{IfSome, IfNone}
 use Rattle.std.proofs.lemmas.List.{length-take}
 use Rattle.bit_store.specs.Bits.{bits_of, ones_of, IsOneAt}

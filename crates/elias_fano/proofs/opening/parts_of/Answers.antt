@@ -1,8 +1,8 @@
-use Rattle.std.proofs.Common.{◌≡◌, ◌≤◌, ◌-◌, ◌+◌, ◌*◌, ℕ, List, Bool, length, take, drop, ap, ◌∙◌, refl, arith}
+use Rattle.std.proofs.Common.{◌≡◌, ◌-◌, ℕ, List, Bool, length, take, drop, ap, ◌∙◌, arith}
 use Rattle.std.proofs.lemmas.List.{take_all, length-drop}
 use Rattle.bit_store.specs.Bits.{bits_of}
 use Rattle.elias_fano.specs.declared.parts.Parts.{Parts}
-use Rattle.elias_fano.specs.Reading.{parts_in, upper_start_in, upper_len_in}
+use Rattle.elias_fano.specs.Reading.{upper_len_in}
 use Rattle.elias_fano.proofs.opening.parts_of.Goals as goal
 
 made : ℕ → ℕ → List Bool → List Bool → Parts

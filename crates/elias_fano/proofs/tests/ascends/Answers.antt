@@ -1,4 +1,4 @@
-use Rattle.std.proofs.Common.{refl, arith}
+use Rattle.std.proofs.Common.{refl}
 use Rattle.elias_fano.specs.Reading.{first_descent}
 use Rattle.elias_fano.proofs.Faults.{descent-more, ended, ascends-none, ascending}
 use Rattle.elias_fano.proofs.tests.ascends.Goals as goal

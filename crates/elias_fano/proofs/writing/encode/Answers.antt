@@ -1,7 +1,7 @@
-use Rattle.std.proofs.Common.{◌≡◌, ◌++◌, ◌∙◌, [], ap, sym, refl, arith, ℕ, List, length}
+use Rattle.std.proofs.Common.{◌≡◌, ◌∙◌, ap, ℕ, length}
 use Rattle.std.specs.Int.{w64, to_be_bytes}
 use Rattle.bit_store.specs.Bits.{text_of}
-use Rattle.elias_fano.specs.Spelling.{spelling, spelled, last_of, low_width, lower_bits, upper_bits}
+use Rattle.elias_fano.specs.Spelling.{spelling, spelled, last_of, lower_bits, upper_bits}
 use Rattle.elias_fano.proofs.Joined.{joined, same_parts}
 use Rattle.elias_fano.proofs.writing.encode.Goals as goal
 

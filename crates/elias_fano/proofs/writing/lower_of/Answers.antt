@@ -1,4 +1,4 @@
-use Rattle.std.proofs.Common.{◌≡◌, ◌∙◌, ap, arith, take, length}
+use Rattle.std.proofs.Common.{◌∙◌, ap, arith}
 use Rattle.std.proofs.lemmas.List.{take_all}
 use Rattle.elias_fano.proofs.Lower.{fields, fields-lower}
 use Rattle.elias_fano.proofs.writing.lower_of.Goals as goal

@@ -1,4 +1,4 @@
-use Rattle.std.proofs.Common.{◌≡◌, ◌≤◌, ◌<◌, ◌+◌, ◌-◌, ◌/◌, ◌^◌, ◌++◌, ◌∷◌, [], ◌∙◌, ap, sym, refl, arith, ℕ, List, Bool, true, false, replicate, take, length, get_or}
+use Rattle.std.proofs.Common.{◌≡◌, ◌+◌, ◌-◌, ◌/◌, ◌^◌, ◌++◌, ◌∷◌, [], ◌∙◌, ap, sym, arith, ℕ, true, false, replicate, take, get_or}
 use Rattle.std.proofs.lemmas.List.{take_all, take_more, append_assoc}
 use Rattle.bit_store.specs.Bits.{low_bits}
 use Rattle.elias_fano.proofs.Upper.{walk, top, walk-all, walk-push, top-push, high_le, low-one, walk-nil, top-nil}

@@ -1,6 +1,5 @@
-use Rattle.std.proofs.Common.{◌≡◌, ◌<◌, ◌≤◌, ◌+◌, ◌-◌, ℕ, List, [], ◌∷◌, length, ◌∙◌, ap, sym, arith}
-use Rattle.elias_fano.specs.Reading.{items_of}
-use Rattle.elias_fano.proofs.Places.{place-is, take-items_of, length-items_of}
+use Rattle.std.proofs.Common.{◌-◌, length, ◌∙◌, ap, sym, arith}
+use Rattle.elias_fano.proofs.Places.{place-is, take-items_of}
 use Rattle.elias_fano.proofs.iter.EfBackIterator.next.Goals as goal
 
 pub item-requires-clause-place : goal.item-requires-clause-place

@@ -1,5 +1,5 @@
-use Rattle.std.proofs.Common.{◌≡◌, ◌<◌, ◌≤◌, ◌+◌, ℕ, List, [], ◌∷◌, drop, length, ◌∙◌, ap, sym, arith}
-use Rattle.std.proofs.lemmas.List.{drop_all, length-drop}
+use Rattle.std.proofs.Common.{length, ◌∙◌, ap, sym, arith}
+use Rattle.std.proofs.lemmas.List.{drop_all}
 use Rattle.elias_fano.specs.Reading.{items_of}
 use Rattle.elias_fano.proofs.Places.{next-place, drop-items_of, ones-past, length-items_of}
 use Rattle.elias_fano.proofs.iter.EfIterIterator.next.Goals as goal

@@ -1,6 +1,4 @@
-use Rattle.std.proofs.Common.{◌≡◌, ◌<◌, ◌≤◌, ℕ, List, Bool, Option, Some, None, length, ◌∙◌, sym, arith}
-use Rattle.std.specs.Prelude.{IfNone, IsSome}
-use Rattle.bit_store.specs.Bits.{ones_of}
+use Rattle.std.proofs.Common.{◌<◌, length, ◌∙◌, sym, arith}
 use Rattle.elias_fano.proofs.Places.{place-is, some_place, length-items_of, get_or-items_of}
 use Rattle.elias_fano.proofs.list.EfList.get.Goals as goal
 

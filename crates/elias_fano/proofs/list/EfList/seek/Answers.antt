@@ -1,4 +1,4 @@
-use Rattle.std.proofs.Common.{◌≤◌, ◌<◌, ◌+◌, ◌-◌, ◌/◌, ℕ, arith}
+use Rattle.std.proofs.Common.{◌<◌, ◌+◌, ◌-◌, ◌/◌, ℕ, arith}
 use Rattle.elias_fano.proofs.list.EfList.seek.Goals as goal
 
 pub loop-low-preserved-then-get-at : goal.loop-low-preserved-then-get-at

@@ -1,6 +1,5 @@
 use Rattle.std.proofs.Common.{ℕ, ◌-◌, ◌<◌, ◌≤◌, length}
 use Rattle.std.specs.Prelude.{slice_index}
-use Rattle.std.specs.List.Sorted.{IsNonDecreasing}
 use Rattle.elias_fano.proofs.list.EfList.seek.Given as goal
 
 abbrev pub invariant-loop-low : goal.invariant-loop-low
