@@ -14,6 +14,7 @@ mod memory;
 mod rows;
 mod sink;
 mod source;
+mod steps;
 #[cfg(test)]
 mod tests;
 
@@ -31,3 +32,4 @@ pub use memory::{
 pub use rows::{KeeperStart, Row, RowId, RowWrite, Rowlist};
 pub use sink::Sink;
 pub use source::Source;
+pub use steps::Steps;
