@@ -1,0 +1,6 @@
+pub mod Numbers
+pub mod Bodies
+pub mod Walks
+pub mod Headers
+pub mod Places
+pub mod Growth

@@ -1,0 +1,12 @@
+/// Why bytes are no word file: the first of these that holds, in this order but that `Short` is told
+/// of the header before `Magic` and of a word after it.
+#[derive(Clone, Copy, Debug, PartialEq, Eq)]
+pub enum WordError {
+    /// The header is cut off, and `at` is the file's length; or the word at the offset `at` ends past
+    /// the file.
+    Short { at: u64 },
+    /// The first four bytes are not `AGW1`.
+    Magic,
+    /// The header says another number of words than follow it.
+    Count { said: u64, found: u64 },
+}
