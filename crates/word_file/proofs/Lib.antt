@@ -4,3 +4,4 @@ pub mod Walks
 pub mod Headers
 pub mod Places
 pub mod Growth
+pub mod Differences

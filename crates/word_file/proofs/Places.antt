@@ -1,6 +1,7 @@
 -- What is read at a place.
-use Rattle.std.proofs.Common.{◌≡◌, ℕ, zero, suc, ◌+◌, ◌^◌, ◌<◌, ◌≤◌, List, [], ◌∷◌, ◌++◌, length, get_or, take, drop, Some, None, refl, sym, ap, subst, ◌∙◌, arith, inl, inr}
-use Rattle.std.proofs.lemmas.Bool.{cases_lt, leb-true, lt-ltb, le-ltb}
+use Rattle.std.proofs.Common.{◌≡◌, ℕ, zero, suc, ◌+◌, ◌^◌, ◌<◌, ◌≤◌, List, [], ◌∷◌, ◌++◌, length, get_or, take, drop, Some, None, refl, sym, ap, subst, ◌∙◌, arith, inl, inr, Option, ltb}
+use Rattle.std.specs.Prelude.{IfSome}
+use Rattle.std.proofs.lemmas.Bool.{cond_both, ltb-true, cases_lt, leb-true, lt-ltb, le-ltb}
 use Rattle.std.proofs.lemmas.List.{length-append, length-drop}
 use Rattle.word_file.specs.declared.tag.Tag.{Tag}
 use Rattle.word_file.specs.Spelling.{TaggedWords, header, body, word_bytes, spelling, AreShort, end_of, offset_at, offset_of, IsPlace}
@@ -78,3 +79,13 @@ next_none words i e len e-is len-is le =
 
 pub first_some : (words : List (List ℕ)) → 0 < length words → Some 40 ≡ offset_of words 0
 first_some words lt = rw (lt-ltb 0 (length words) lt, offset_at_none words) refl
+
+-- an offset that is given is that of its place
+pub place_of_some : (words : List (List ℕ)) (i : ℕ) → IfSome (offset_of words i) (λ at. IsPlace words at i)
+place_of_some words i =
+    cond_both (ltb i (length words)) (Some (offset_at words i)) None (λ (o : Option ℕ). IfSome o (λ at. IsPlace words at i))
+    (λ e. record { within = ltb-true _ _ e; offset = refl })
+    (λ e. tt)
+
+pub placed : (o : Option ℕ) (words : List (List ℕ)) (i : ℕ) → o ≡ offset_of words i → IfSome o (λ at. IsPlace words at i)
+placed o words i e = subst (λ (p : Option ℕ). IfSome p (λ at. IsPlace words at i)) (sym e) (place_of_some words i)

@@ -1,4 +1,4 @@
-ghost use Rattle.std.specs.Prelude.{◌≡◌, ℕ, ◌+◌, [], length, slice_index_or, IfOk, Ok};
+ghost use Rattle.std.specs.Prelude.{◌≡◌, ℕ, ◌+◌, [], length, slice_index_or, IfOk, IfSome, Ok};
 ghost use Rattle.word_file.specs.Spelling.{TaggedWords, Fits, spelling, StartsAt, IsPlace, offset_of};
 ghost use Rattle.word_file.specs.Reading.{checked};
 
@@ -78,7 +78,8 @@ impl WordFile {
     /// The offset after the word at `at`, and `None` after the last word.
     pub fn next(&self, at: u64) -> Option<u64>
         requires { StartsAt self.now.words at }
-        ensures { (i : ℕ) → IsPlace self.now.words at i → result ≡ offset_of self.now.words (i + 1) }
+        ensures value { (i : ℕ) → IsPlace self.now.words at i → result ≡ offset_of self.now.words (i + 1) }
+        ensures place { (i : ℕ) → IsPlace self.now.words at i → IfSome result (λ after. IsPlace self.now.words after (i + 1)) }
     {
         let bytes = self.bytes.as_slice();
         let end = end_at(bytes, at as usize);
@@ -91,7 +92,8 @@ impl WordFile {
 
     /// The offset of the first word, and `None` where there is no word.
     pub fn first(&self) -> Option<u64>
-        ensures { result ≡ offset_of self.now.words 0 }
+        ensures value { result ≡ offset_of self.now.words 0 }
+        ensures place { IfSome result (λ at. IsPlace self.now.words at 0) }
     {
         if self.count == 0 {
             None

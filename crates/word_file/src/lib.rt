@@ -1,13 +1,18 @@
 //! Word files: a tag and a list of words in one text, each word reached by its offset.
 #![tactic(auto)]
 
+mod access;
 mod error;
 mod file;
 mod read;
 mod tag;
 mod writer;
 
+pub use access::{AccessError, first_difference};
 pub use error::WordError;
 pub use file::WordFile;
 pub use tag::Tag;
 pub use writer::WordWriter;
+
+#[cfg(test)]
+mod tests;
