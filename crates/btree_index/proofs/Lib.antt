@@ -1,0 +1,5 @@
+pub mod Gathers
+pub mod Spellings
+pub mod Searches
+pub mod Seeks
+pub mod Descents

@@ -1,0 +1,52 @@
+-- The levels over a list of offsets, and their spelling.
+use Rattle.std.specs.Prelude.{◌≡◌, ℕ, zero, suc, ◌+◌, ◌-◌, ◌*◌, ◌^◌, ◌<◌, nat_le, ◌==◌, if◌then◌else◌, List, [], ◌∷◌, ◌++◌, length, map, drop, slice_index}
+use Rattle.std.specs.List.{range_with_len, flat_map, AllByRecursion}
+use Rattle.std.specs.Int.{div_ceil, w32, w64, to_be_bytes, from_be_bytes}
+
+-- how many of the places 0, 16^j, 2 * 16^j and so on are below n
+unfoldable pub entries : ℕ → ℕ → ℕ
+entries n j = div_ceil n (16 ^ j)
+
+-- the offsets at these places
+unfoldable pub level : List ℕ → ℕ → List ℕ
+level offsets j = map (λ k. slice_index offsets (k * 16 ^ j)) (range_with_len 0 (entries (length offsets) j))
+
+-- the first level from j on with at most 16 entries, as level 15 is over fewer than 2^64 keys
+unfoldable pub top_from : ℕ → ℕ → ℕ → ℕ
+top_from zero j n = j
+top_from (suc more) j n = if nat_le (entries n j) 16 then j else top_from more (j + 1) n
+
+-- how many levels there are: up to the first with at most 16 entries, and none over no keys
+unfoldable pub levels : ℕ → ℕ
+levels n = if n == 0 then 0 else top_from 15 0 n + 1
+
+-- offsets of eight bytes
+unfoldable pub offset_bytes : List ℕ → List ℕ
+offset_bytes offsets = flat_map (to_be_bytes w64) offsets
+
+-- the levels below j, the highest first
+unfoldable pub levels_below : List ℕ → ℕ → List ℕ
+levels_below offsets zero = []
+levels_below offsets (suc j) = offset_bytes (level offsets j) ++ levels_below offsets j
+
+-- `AGB1`, the number of levels, the number of keys, and the levels
+unfoldable pub spelling : List ℕ → List ℕ
+spelling offsets = to_be_bytes w32 0x4147_4231 ++ to_be_bytes w32 (levels (length offsets)) ++ to_be_bytes w64 (length offsets) ++ levels_below offsets (levels (length offsets))
+
+-- the offsets at the front of bytes
+unfoldable pub offsets_at : ℕ → List ℕ → List ℕ
+offsets_at zero bytes = []
+offsets_at (suc n) bytes = from_be_bytes w64 bytes ∷ offsets_at n (drop 8 bytes)
+
+-- the lowest level, which lists all and stands last
+unfoldable pub offsets_in : ℕ → List ℕ → List ℕ
+offsets_in count bytes = offsets_at count (drop (length bytes - 8 * count) bytes)
+
+abbrev pub AreOffsets : List ℕ → Type 0
+AreOffsets offsets = AllByRecursion (λ offset. offset < 2 ^ 64) offsets
+
+-- the bytes are the spelling of what is seen in them
+pub record IsHeld (count : ℕ) (bytes : List ℕ) : Type 0 where
+  pub counted : count ≡ length (offsets_in count bytes)
+  pub fits : AreOffsets (offsets_in count bytes)
+  pub spelled : bytes ≡ spelling (offsets_in count bytes)

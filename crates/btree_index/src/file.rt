@@ -1,0 +1,128 @@
+ghost use Rattle.std.specs.Prelude.{◌≡◌, ℕ, ◌+◌, ◌*◌, ◌<◌, ◌≤◌, length, slice_index, IfOk, OnOk, IfErr, Err, Some};
+ghost use Rattle.btree_index.specs.Keys.{IsPaired, key_count, key_offsets, KeysAscend, IsFirstNotBelow};
+ghost use Rattle.btree_index.specs.Levels.{levels, spelling};
+ghost use Rattle.word_file.specs.Difference.{first_difference};
+ghost use Rattle.word_file.specs.declared.access.AccessError.TheVariants.{Differs, Memory as NoMemory};
+
+use crate::levels::{entries_of, levels_of, offsets_of, spell, u64_at};
+use crate::search::search;
+use agg_outside::{Bytes, Memory, Steps};
+use std::alloc::Global;
+use std::marker::Model;
+use std::sync::ledger::Ledger;
+use word_file::{AccessError, WordFile, first_difference};
+
+/// The B-tree accessor of a word file.
+#[derive(Debug, Drop)]
+pub struct BTreeFile {
+    count: u64,
+    bytes: Bytes,
+}
+
+impl Model for BTreeFile {
+    ghost use Rattle.std.specs.Prelude.{List, ℕ};
+    ghost use Rattle.btree_index.specs.Levels.{offsets_in, IsHeld};
+
+    ghost Value = { List ℕ };
+
+    ghost view = { λ b. offsets_in b.count b.bytes };
+
+    ghost invariant = { λ b. IsHeld b.count b.bytes };
+}
+
+fn hold(count: u64, bytes: Vec<u8>, offsets: &[u64]) -> BTreeFile
+    requires count { count ≡ length offsets.now }
+    requires bytes { bytes.items ≡ spelling offsets.now }
+    ensures { result ≡ offsets.now }
+{
+    BTreeFile {
+        count,
+        bytes: Bytes::from_vec(bytes),
+    }
+}
+
+impl BTreeFile {
+    /// The accessor of the word file.
+    pub fn build(alloc: Global, words: &WordFile) -> Result<BTreeFile, Memory>
+        requires { IsPaired words.now.words }
+        ensures { IfOk result (λ b. b ≡ key_offsets words.now.words) }
+    {
+        let offsets = offsets_of(alloc, words)?;
+        let bytes = spell(alloc, offsets.as_slice())?;
+        Ok(hold(offsets.len() as u64, bytes, offsets.as_slice()))
+    }
+
+    /// The bytes as the accessor of the word file, where they are what `build` gives.
+    pub fn check(alloc: Global, bytes: Bytes, words: &WordFile) -> Result<BTreeFile, AccessError>
+        requires { IsPaired words.now.words }
+        ensures ok { IfOk result (λ b. b ≡ key_offsets words.now.words) }
+        // What is accepted is spelled so.
+        ensures found { OnOk result (bytes ≡ spelling (key_offsets words.now.words)) }
+        // What is spelled so is refused for want of memory alone.
+        ensures only { bytes ≡ spelling (key_offsets words.now.words) → IfErr result (λ e. e ≡ NoMemory) }
+        // Where the bytes differ first.
+        ensures exact { (at : ℕ) → result ≡ Err (Differs at) → first_difference bytes (spelling (key_offsets words.now.words)) ≡ Some at }
+    {
+        let built = BTreeFile::build(alloc, words)?;
+        match first_difference(bytes.as_slice(), built.bytes()) {
+            None => Ok(built),
+            Some(at) => Err(AccessError::Differs { at: at as u64 }),
+        }
+    }
+
+    /// The number of keys.
+    pub fn count(&self) -> u64
+        ensures { result ≡ length self.now }
+    {
+        self.count
+    }
+
+    /// The number of levels.
+    pub fn levels(&self) -> u32
+        ensures { result ≡ levels (length self.now) }
+    {
+        levels_of(self.count)
+    }
+
+    /// The whole accessor.
+    pub fn bytes(&self) -> &[u8]
+        ensures { result.now ≡ spelling self.now }
+    {
+        self.bytes.as_slice()
+    }
+
+    /// The offset of the key at this place.
+    pub fn offset_of(&self, place: u64) -> u64
+        requires { place < length self.now }
+        ensures { result ≡ slice_index self.now place }
+    {
+        let bytes = self.bytes.as_slice();
+        let left = (self.count - place) as usize;
+        u64_at(bytes, bytes.len() - 8 * left)
+    }
+
+    /// The place of the first key that is not below this one, or the number of keys. It goes down from
+    /// the highest level: where an entry is the first of its level that is not below, the entries under
+    /// the one before it are all that is left to look at.
+    pub fn seek<L: Ledger>(&self, words: &WordFile, key: &[u8], steps: &mut Steps<L>) -> u64
+        requires of_words { self.now ≡ key_offsets words.now.words }
+        requires ascending { KeysAscend words.now.words }
+        ensures place { IsFirstNotBelow words.now.words key.now result }
+        ensures steps { steps.new ≤ steps.old + (8 * levels (key_count words.now.words) + 2) }
+    {
+        let bytes = self.bytes.as_slice();
+        let mut level = levels_of(self.count);
+        let mut start = 16;
+        let mut from = 0;
+        let mut to = 16;
+        let mut place = 0;
+        while level > 0 {
+            level -= 1;
+            place = search(&bytes[start..], level, words, key, from, to, steps);
+            start += 8 * entries_of(self.count, level) as usize;
+            to = 16 * place;
+            from = to.saturating_sub(15);
+        }
+        place
+    }
+}

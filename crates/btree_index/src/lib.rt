@@ -1,0 +1,8 @@
+//! B-tree accessors of word files: the offsets of the keys, level over level.
+#![tactic(auto)]
+
+mod file;
+mod levels;
+mod search;
+
+pub use file::BTreeFile;
