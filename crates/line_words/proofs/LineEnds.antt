@@ -1,6 +1,7 @@
 -- A carriage return at the end of a line.
 use Rattle.std.proofs.Common.{◌≡◌, ℕ, ◌+◌, ◌-◌, List, [], ◌∷◌, length, get_or, take, refl, ap, arith, rules}
 use Rattle.std.proofs.lemmas.Grind.{common_steps}
+use Rattle.std.proofs.lemmas.Option.{get_or_from_slice_get}
 use Rattle.line_words.specs.Lines.{without_cr}
 
 -- a line with no carriage return at its end stays
@@ -14,3 +15,6 @@ pub without_cr-drops : (line : List ℕ) → get_or line (length line - 1) 0 ≡
 without_cr-drops [] ends = refl
 without_cr-drops (b ∷ []) ends = grind arith
 without_cr-drops (b ∷ c ∷ line) ends = grind (arith, common_steps, without_cr-drops (c ∷ line) (grind (arith, common_steps, ends)))
+
+-- what a line is without its carriage return
+pub ruleset cr_ends = (without_cr-keeps, without_cr-drops, get_or_from_slice_get)
