@@ -1,1 +1,3 @@
 pub mod LineEnds
+pub mod Cuts
+pub mod Numerals

@@ -1,1 +1,4 @@
 pub mod Lines
+pub mod Replies
+pub mod Requests
+pub mod Words

@@ -2,5 +2,10 @@
 #![tactic(auto)]
 
 mod lines;
+mod reply;
+mod request;
+mod words;
 
 pub use lines::without_cr;
+pub use reply::Reply;
+pub use request::{LineError, Request};
