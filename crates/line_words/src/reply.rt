@@ -1,4 +1,9 @@
-use agg_outside::Bytes;
+ghost use Rattle.std.specs.Prelude.{◌≡◌, ◌++◌, IfOk, OnOk, decimal};
+ghost use Rattle.hex.specs.Hex.{encode_lower};
+ghost use Rattle.line_words.specs.Replies.{reply_line, reply_text};
+
+use agg_outside::{Bytes, Memory};
+use std::alloc::Global;
 
 /// What a line is answered.
 #[derive(Debug, Drop, PartialEq, Eq)]
@@ -15,4 +20,13 @@ pub enum Reply {
     NoValue,
     /// The line of this number, counted from 1, makes no request.
     ErrSyntax(u64),
+}
+
+fn push_number(text: &mut Vec<u8>, n: u64) -> Result<(), Memory>
+    ensures { OnOk result (text.new.items ≡ text.old.items ++ decimal n) }
+{
+    let alloc = *text.allocator();
+    let digits = n.to_string(alloc)?;
+    text.extend_from_slice(digits.as_bytes())?;
+    Ok(())
 }

@@ -154,3 +154,47 @@ fn latest(alloc: Global, words: Words<'_>) -> Result<Request, LineError>
     check_domain(e)?;
     Ok(Request::Latest(t, e, k))
 }
+
+#[tactic(auto, unfolding(crate::specs::Requests::bare_request))]
+fn bare(request: Request, words: Words<'_>) -> Result<Request, LineError>
+    ensures exact { result ≡ bare_request request words.entry }
+    ensures fits { IsRequest request → IfOk result IsRequest }
+{
+    no_words(words)?;
+    Ok(request)
+}
+
+impl Request {
+    /// The request that a line makes, which has neither its line feed nor the carriage return
+    /// before that. `Syntax` goes before `Length`, a key's before a value's, and `Entity` comes last.
+    #[tactic(auto, unfolding(crate::specs::Requests::request_of_words))]
+    pub fn read(alloc: Global, line: &[u8]) -> Result<Request, LineError>
+        ensures exact { MatchResult result (λ r. request_of line.now ≡ Ok r)
+            (λ e. (e ≡ errors.Memory) ⊎ (request_of line.now ≡ Err e)) }
+        ensures fits { IfOk result IsRequest }
+    {
+        let mut words = Words::of(line);
+        let Some(form) = words.next() else {
+            return Err(LineError::Syntax);
+        };
+        if form == b"tx".as_slice() {
+            return tx(words);
+        }
+        if form == b"put".as_slice() {
+            return put(alloc, words);
+        }
+        if form == b"commit".as_slice() {
+            return bare(Request::Commit, words);
+        }
+        if form == b"open".as_slice() {
+            return bare(Request::Open, words);
+        }
+        if form == b"close".as_slice() {
+            return close(words);
+        }
+        if form == b"latest".as_slice() {
+            return latest(alloc, words);
+        }
+        Err(LineError::Syntax)
+    }
+}
