@@ -1,6 +1,6 @@
-ghost use Rattle.std.specs.Prelude.{◌≡◌, ◌++◌, IfOk, OnOk, decimal};
+ghost use Rattle.std.specs.Prelude.{◌≡◌, ◌++◌, IfOk};
 ghost use Rattle.hex.specs.Hex.{encode_lower};
-ghost use Rattle.line_words.specs.Replies.{reply_line, reply_text};
+ghost use Rattle.line_words.specs.Replies.{with_number, reply_line, reply_text};
 
 use agg_outside::{Bytes, Memory};
 use std::alloc::Global;
@@ -22,11 +22,54 @@ pub enum Reply {
     ErrSyntax(u64),
 }
 
-fn push_number(text: &mut Vec<u8>, n: u64) -> Result<(), Memory>
-    ensures { OnOk result (text.new.items ≡ text.old.items ++ decimal n) }
+// The text, a space and the number.
+fn with_number(alloc: Global, mut text: Vec<u8>, n: u64) -> Result<Vec<u8>, Memory>
+    ensures { IfOk result (λ longer. longer.items ≡ with_number text.items n) }
 {
-    let alloc = *text.allocator();
     let digits = n.to_string(alloc)?;
+    text.push(b' ')?;
     text.extend_from_slice(digits.as_bytes())?;
-    Ok(())
+    Ok(text)
+}
+
+// The text and the value in hex.
+fn with_value(alloc: Global, mut text: Vec<u8>, value: &Bytes) -> Result<Vec<u8>, Memory>
+    ensures { IfOk result (λ longer. longer.items ≡ text.items ++ encode_lower value.now) }
+{
+    let digits = hex::encode(alloc, value.as_slice())?;
+    text.extend_from_slice(digits.as_bytes())?;
+    Ok(text)
+}
+
+impl Reply {
+    /// The line of the reply, with its line feed. Values are in hex, in lower case.
+    pub fn print(&self, alloc: Global) -> Result<Bytes, Memory>
+        ensures { IfOk result (λ text. text ≡ reply_text self.now) }
+    {
+        let mut text = self.line(alloc)?;
+        text.push(b'\n')?;
+        Ok(Bytes::from_vec(text))
+    }
+
+    #[tactic(auto, unfolding(crate::specs::Replies::reply_line))]
+    fn line(&self, alloc: Global) -> Result<Vec<u8>, Memory>
+        ensures { IfOk result (λ text. text.items ≡ reply_line self.now) }
+    {
+        match self {
+            Reply::Ok => Ok(Vec::from_slice(alloc, b"ok")?),
+            Reply::Committed(count, next) => {
+                let text = with_number(alloc, Vec::from_slice(alloc, b"committed")?, *count)?;
+                with_number(alloc, text, *next)
+            }
+            Reply::Opened(tx, next) => {
+                let text = with_number(alloc, Vec::from_slice(alloc, b"opened")?, *tx)?;
+                with_number(alloc, text, *next)
+            }
+            Reply::Value(value) => with_value(alloc, Vec::from_slice(alloc, b"value ")?, value),
+            Reply::NoValue => Ok(Vec::from_slice(alloc, b"none")?),
+            Reply::ErrSyntax(line) => {
+                with_number(alloc, Vec::from_slice(alloc, b"err syntax")?, *line)
+            }
+        }
+    }
 }
