@@ -4,6 +4,8 @@
 mod lines;
 mod reply;
 mod request;
+#[cfg(test)]
+mod tests;
 mod words;
 
 pub use lines::without_cr;
