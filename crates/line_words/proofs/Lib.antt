@@ -1,3 +1,4 @@
 pub mod LineEnds
 pub mod Cuts
+pub mod Feeds
 pub mod Numerals

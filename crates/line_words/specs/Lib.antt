@@ -1,3 +1,5 @@
+pub mod CutLends
+pub mod LineCut
 pub mod Lines
 pub mod Replies
 pub mod Requests
