@@ -38,11 +38,11 @@ module _ (bytes : List ℕ) (start seen : ℕ) (searched : IsSearched bytes star
       λ is. ahead (j - seen) (omega arith) (same ∙ is))
       (cases_lt j seen)
 
-  left_has_none : (n : ℕ) → HasNone (drop seen bytes) n → HasNone (drop start bytes) (seen + n - start)
+  pub left_has_none : (n : ℕ) → HasNone (drop seen bytes) n → HasNone (drop start bytes) (seen + n - start)
   left_has_none n ahead i below = λ is.
       searched_to n ahead (start + i) (omega arith) (omega arith) (sym (get_or-drop start bytes i 0) ∙ is)
 
-  missed : IsFirstByte (is_byte 10) (drop seen bytes) None → HasNone (drop seen bytes) (length (drop seen bytes))
+  pub missed : IsFirstByte (is_byte 10) (drop seen bytes) None → HasNone (drop seen bytes) (length (drop seen bytes))
   missed none i below = λ is. none i (omega arith) below (eq-eqb (get_or (drop seen bytes) i 0) 10 is)
 
   -- with no line feed, none of the bytes that are left is one
@@ -50,13 +50,16 @@ module _ (bytes : List ℕ) (start seen : ℕ) (searched : IsSearched bytes star
   none_left none j from below =
       searched_to (length (drop seen bytes)) (missed none) j from (omega (arith, length-drop seen bytes, searched.within))
 
+  pub nowhere_left : IsFirstByte (is_byte 10) (drop seen bytes) None → HasNone (drop start bytes) (length (drop start bytes))
+  nowhere_left none =
+      let whole : seen + length (drop seen bytes) - start ≡ length (drop start bytes) = omega (arith, length-drop seen bytes, length-drop start bytes, searched.within, searched.ordered) in
+      rw whole at (left_has_none (length (drop seen bytes)) (missed none))
+
   pub next_cut-missed : (limit : ℕ) → IsFirstByte (is_byte 10) (drop seen bytes) None
       → next_cut (record { limit = limit; left = drop start bytes }) ≡ (None, take (limit + 1) (drop start bytes))
   unfolding next_cut
   next_cut-missed limit none =
-      let whole : seen + length (drop seen bytes) - start ≡ length (drop start bytes) = omega (arith, length-drop seen bytes, length-drop start bytes, searched.within, searched.ordered) in
-      let nowhere : HasNone (drop start bytes) (length (drop start bytes)) = rw whole at (left_has_none (length (drop seen bytes)) (missed none)) in
-      ap (cut_at limit (drop start bytes)) (position-none (drop start bytes) nowhere)
+      ap (cut_at limit (drop start bytes)) (position-none (drop start bytes) (nowhere_left none))
 
   pub next_cut-found : (limit k : ℕ) → IsFirstByte (is_byte 10) (drop seen bytes) (Some k)
       → next_cut (record { limit = limit; left = drop start bytes }) ≡ (Some (piece_of limit (slice_range bytes start (seen + k))), drop (seen + k + 1) bytes)

@@ -1,7 +1,7 @@
-ghost use Rattle.std.specs.Prelude.{◌≡◌, ◌+◌, ℕ, List, [], ◌++◌, take, position, length, slice_range, vec_len, ◌≤◌, OnOk, OnErr, None};
+ghost use Rattle.std.specs.Prelude.{◌≡◌, ◌+◌, ℕ, List, [], ◌++◌, take, drop, length, slice_range, vec_len, ◌≤◌, OnOk, OnErr, Some, None};
 ghost use Rattle.std.specs.Option.{option_to_list};
 ghost use Rattle.std.specs.Borrow.{sem};
-ghost use Rattle.line_words.specs.LineCut.{is_feed, piece_of, pieces_of, next_cut, rest_cut, cut_of};
+ghost use Rattle.line_words.specs.LineCut.{piece_of, pieces_of, next_cut, last_from, rest_cut, cut_of, IsSearched};
 
 use crate::lines::without_cr;
 use agg_outside::Memory;
@@ -53,6 +53,19 @@ fn cut_off(limit: u64, text: &[u8], start: usize, end: usize) -> Cutting<'_>
         return Cutting::Long;
     }
     Cutting::Line(without_cr(line))
+}
+
+// Where the last line of what is left begins.
+fn last_line(text: &[u8], start: usize, seen: usize) -> usize
+    requires { IsSearched text.now start seen }
+    ensures from { start ≤ result }
+    ensures within { result ≤ length text.now }
+    ensures line { last_from [] (drop start text.now) ≡ drop result text.now }
+{
+    match memrchr(b'\n', &text[seen..]) {
+        Some(ahead) => seen + ahead + 1,
+        None => start,
+    }
 }
 
 // Of a line that is too long already, one byte past the limit is kept.
@@ -109,6 +122,9 @@ impl LineCut {
     pub fn next(&mut self) -> Cutting<'_>
         ensures* leaves { sem 𝓛 (EndsWith self.entry (next_cut self.old).1) }
         ensures cut { cut_of result ≡ (next_cut self.old).0 }
+        // What is cut off is the first line of the text, however it goes on.
+        ensures lines { (later : List ℕ) → pieces_of self.old.limit (self.old.left ++ later)
+            ≡ option_to_list (next_cut self.old).0 ++ pieces_of self.old.limit ((next_cut self.old).1 ++ later) }
     {
         let Some(ahead) = memchr(b'\n', &self.buffer[self.seen..]) else {
             hold_back(&mut self.buffer, self.start, self.limit);
@@ -120,5 +136,23 @@ impl LineCut {
         self.start = place + 1;
         self.seen = place + 1;
         cut_off(self.limit, self.buffer.as_slice(), start, place)
+    }
+
+    /// Cuts off all that has come: the last line, which has no line feed, where it has bytes. Lines
+    /// that `next` hasn't given yet are lost.
+    pub fn rest(&mut self) -> Cutting<'_>
+        ensures* leaves { sem 𝓛 (EndsWith self.entry []) }
+        ensures cut { cut_of result ≡ rest_cut self.old }
+        // Once `next` gives none, it is all that is left of the text.
+        ensures lines { (next_cut self.old).0 ≡ None → pieces_of self.old.limit self.old.left ≡ option_to_list (rest_cut self.old) }
+    {
+        let start = last_line(self.buffer.as_slice(), self.start, self.seen);
+        let end = self.buffer.len();
+        self.start = end;
+        self.seen = end;
+        if start == end {
+            return Cutting::NotYet;
+        }
+        cut_off(self.limit, self.buffer.as_slice(), start, end)
     }
 }

@@ -3,6 +3,7 @@ use Rattle.std.proofs.lemmas.List.{take_rest, drop-take}
 use Rattle.memchr.specs.Find.{IsFirstByte, is_byte}
 use Rattle.line_words.specs.LineCut.{Uncut, Piece, next_cut, cut_of, piece_of}
 use Rattle.line_words.proofs.Feeds.{next_cut-missed, next_cut-found, IsSearched-kept}
+use Rattle.line_words.proofs.Pieces.{next_cut-lines}
 use Rattle.line_words.proofs.line_cut.LineCut.next.Goals as goal
 
 pub invariant_of-self : goal.invariant_of-self
@@ -21,7 +22,7 @@ returns-in_default c =
     let cut = next_cut-missed bytes s.start s.seen c.self.invariant s.limit missed in
     let kept : drop s.start c.hold_back.new.text.items ≡ take (s.limit + 1) (drop s.start bytes) =
     ap (drop s.start) (c.hold_back.ensures ∙ ap (λ n. take n bytes) (add_assoc s.start s.limit 1)) ∙ drop-take s.start (s.limit + 1) bytes in
-    rw (← c.self.view_is) ((refl, λ _. tt, ap (λ (left : List ℕ). let u : Uncut = record { limit = s.limit; left = left } in u) (kept ∙ sym (ap (λ (r : Option Piece × List ℕ). r.1) cut))), record { leaves = tt; cut = sym (ap (λ (r : Option Piece × List ℕ). r.0) cut) })
+    rw (← c.self.view_is) ((refl, λ _. tt, ap (λ (left : List ℕ). let u : Uncut = record { limit = s.limit; left = left } in u) (kept ∙ sym (ap (λ (r : Option Piece × List ℕ). r.1) cut))), record { leaves = tt; cut = sym (ap (λ (r : Option Piece × List ℕ). r.0) cut); lines = next_cut-lines (record { limit = s.limit; left = drop s.start bytes }) })
 
 pub returns : goal.returns
 returns c =
@@ -29,4 +30,4 @@ returns c =
     let bytes = s.buffer.items in
     let found : IsFirstByte (is_byte 10) (drop s.seen bytes) (Some c.in-Some.ahead) = rw (take_rest, c.deref.ensures.value) at c.in-Some.ensures in
     let cut = next_cut-found bytes s.start s.seen c.self.invariant s.limit c.in-Some.ahead found in
-    rw (← c.self.view_is) ((refl, λ _. tt, ap (λ (left : List ℕ). let u : Uncut = record { limit = s.limit; left = left } in u) (sym (ap (λ (r : Option Piece × List ℕ). r.1) cut))), record { leaves = tt; cut = (rw c.as_slice.ensures.value at c.cut_off.ensures) ∙ sym (ap (λ (r : Option Piece × List ℕ). r.0) cut) })
+    rw (← c.self.view_is) ((refl, λ _. tt, ap (λ (left : List ℕ). let u : Uncut = record { limit = s.limit; left = left } in u) (sym (ap (λ (r : Option Piece × List ℕ). r.1) cut))), record { leaves = tt; cut = (rw c.as_slice.ensures.value at c.cut_off.ensures) ∙ sym (ap (λ (r : Option Piece × List ℕ). r.0) cut); lines = next_cut-lines (record { limit = s.limit; left = drop s.start bytes }) })
