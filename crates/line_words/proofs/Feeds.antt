@@ -1,13 +1,11 @@
 -- A text in which line feeds were looked for from some place on.
-use Rattle.std.proofs.Common.{◌≡◌, ◌≢◌, ℕ, ◌+◌, ◌-◌, ◌<◌, ◌≤◌, zero, suc, Bool, true, false, List, [], ◌∷◌, ◌++◌, length, get_or, take, drop, map, position, eqb, ltb, Option, Some, None, inl, inr, refl, sym, ap, ◌∙◌, add-one, arith, append_assoc, length-take, length-drop, length-append, take_all, ⊎_elim}
+use Rattle.std.proofs.Common.{◌≡◌, ◌≢◌, ℕ, ◌+◌, ◌-◌, ◌<◌, ◌≤◌, List, length, get_or, take, drop, position, Some, None, refl, sym, ap, ◌∙◌, arith, length-take, length-drop, ⊎_elim}
 use Rattle.std.specs.List.{slice_range, position_or_len}
-use Rattle.std.proofs.Math.Seq.{split_at}
-use Rattle.std.proofs.lemmas.Bool.{false_from_ne_true, ne_eqb, eqb-false, eqb-true, eq-eqb, lt-ltb, le-ltb, cases_lt}
-use Rattle.std.proofs.lemmas.List.{get_or-drop, get_or-take, drop-drop, drop-take, take_rest}
+use Rattle.std.proofs.lemmas.Bool.{ne_eqb, eqb-true, eq-eqb, lt-ltb, le-ltb, cases_lt}
+use Rattle.std.proofs.lemmas.List.{get_or-drop, get_or-take, drop-drop}
 use Rattle.std.proofs.lemmas.List.Sums.{position_or_len_is}
-use Rattle.memchr.specs.Find.{IsFirstByte, IsLastByte, is_byte}
-use Rattle.line_words.specs.Lines.{lines_of, lines_from, last_line}
-use Rattle.line_words.specs.LineCut.{Uncut, Piece, Whole, TooLong, is_feed, piece_of, pieces_of, cut_at, next_cut, last_from, rest_cut, IsSearched}
+use Rattle.memchr.specs.Find.{IsFirstByte, is_byte}
+use Rattle.line_words.specs.LineCut.{is_feed, piece_of, cut_at, next_cut, IsSearched}
 
 -- no line feed stands among the first n bytes
 abbrev pub HasNone : List ℕ → ℕ → Type 0

@@ -1,5 +1,5 @@
 -- The lines of a text, of which the first or the last is cut off.
-use Rattle.std.proofs.Common.{◌≡◌, ◌≢◌, ℕ, ◌+◌, ◌<◌, ◌≤◌, zero, suc, Bool, true, false, List, [], ◌∷◌, ◌++◌, length, get_or, take, drop, map, position, cond, eqb, ltb, Option, Some, None, inl, inr, refl, sym, ap, ◌∙◌, add-one, arith, append_assoc, append-nil, length-take, length-append, take_all, ⊎_elim}
+use Rattle.std.proofs.Common.{◌≡◌, ℕ, ◌+◌, ◌<◌, ◌≤◌, suc, true, false, List, [], ◌∷◌, ◌++◌, length, get_or, take, drop, map, position, cond, eqb, ltb, Option, Some, None, refl, sym, ap, ◌∙◌, add-one, arith, append_assoc, append-nil, length-take, length-append, take_all, ⊎_elim}
 use Rattle.std.specs.List.{position_or_len}
 use Rattle.std.specs.Option.{option_to_list}
 use Rattle.std.proofs.Math.Seq.{split_at}
@@ -7,8 +7,8 @@ use Rattle.std.proofs.lemmas.Bool.{ne_eqb, eqb-false, eqb-true, lt-ltb, ltb-fals
 use Rattle.std.proofs.lemmas.List.{get_or-take}
 use Rattle.std.proofs.lemmas.List.Quantifiers.{position-Some}
 use Rattle.std.proofs.lemmas.List.Sums.{fails_before_first}
-use Rattle.line_words.specs.Lines.{lines_of, lines_from, last_line}
-use Rattle.line_words.specs.LineCut.{Uncut, Piece, Whole, TooLong, is_feed, piece_of, pieces_of, cut_at, next_cut, last_from, rest_cut}
+use Rattle.line_words.specs.Lines.{lines_from, last_line}
+use Rattle.line_words.specs.LineCut.{Uncut, Piece, TooLong, is_feed, piece_of, pieces_of, cut_at, next_cut, last_from, rest_cut}
 use Rattle.line_words.proofs.Feeds.{HasNone}
 
 tail_none : (b : ℕ) (text : List ℕ) → HasNone (b ∷ text) (length (b ∷ text)) → HasNone text (length text)
@@ -61,9 +61,9 @@ none_from_position : (text : List ℕ) → position is_feed text ≡ None → Ha
 none_from_position text none i below =
     ⊎_elim
     (λ (is : ltb (position_or_len is_feed text) (length text) ≡ true).
-      let some : Some (position_or_len is_feed text) ≡ None = rw is at none in cc)
+    let some : Some (position_or_len is_feed text) ≡ None = rw is at none in cc)
     (λ (past : ltb (position_or_len is_feed text) (length text) ≡ false).
-      eqb-false (get_or text i 0) 10 (fails_before_first is_feed text i 0 (omega (arith, ltb-false (position_or_len is_feed text) (length text) past))))
+    eqb-false (get_or text i 0) 10 (fails_before_first is_feed text i 0 (omega (arith, ltb-false (position_or_len is_feed text) (length text) past))))
     (cases_Bool (ltb (position_or_len is_feed text) (length text)))
 
 -- what is cut off is the first line of the text, however it goes on
@@ -73,21 +73,21 @@ cut_at-lines limit left later None is =
     let none = none_from_position left is in
     ⊎_elim
     (λ (long : limit + 1 < length left).
-      let kept : HasNone (take (limit + 1) left) (length (take (limit + 1) left)) =
-          λ i below. let low : i < limit + 1 = omega (arith, length-take (limit + 1) left) in
-            λ is. none i (omega arith) (sym (get_or-take (limit + 1) left i 0 low) ∙ is) in
-      ap (map (piece_of limit)) (lines_from-plain left [] later none)
-      ∙ same_if_long limit later left (take (limit + 1) left) (omega arith) (omega (arith, length-take (limit + 1) left))
-      ∙ sym (ap (map (piece_of limit)) (lines_from-plain (take (limit + 1) left) [] later kept)))
+    let kept : HasNone (take (limit + 1) left) (length (take (limit + 1) left)) =
+    λ i below. let low : i < limit + 1 = omega (arith, length-take (limit + 1) left) in
+    λ is. none i (omega arith) (sym (get_or-take (limit + 1) left i 0 low) ∙ is) in
+    ap (map (piece_of limit)) (lines_from-plain left [] later none)
+    ∙ same_if_long limit later left (take (limit + 1) left) (omega arith) (omega (arith, length-take (limit + 1) left))
+    ∙ sym (ap (map (piece_of limit)) (lines_from-plain (take (limit + 1) left) [] later kept)))
     (λ (short : length left ≤ limit + 1). ap (λ (text : List ℕ). pieces_of limit (text ++ later)) (sym (take_all (limit + 1) left short)))
     (cases_lt (limit + 1) (length left))
 cut_at-lines limit left later (Some k) is =
     let at = position-Some is_feed left k 0 is in
     let none : HasNone (take k left) (length (take k left)) =
-        λ i below. let low : i < k = omega (arith, length-take k left) in
-          λ is. eqb-false (get_or left i 0) 10 (at.2 i low) (sym (get_or-take k left i 0 low) ∙ is) in
+    λ i below. let low : i < k = omega (arith, length-take k left) in
+    λ is. eqb-false (get_or left i 0) 10 (at.2 i low) (sym (get_or-take k left i 0 low) ∙ is) in
     let parts : left ≡ take k left ++ 10 ∷ drop (k + 1) left =
-        rw (← eqb-true (get_or left k 0) 10 at.1) (rw add-one (split_at left k 0 at.0)) in
+    rw (← eqb-true (get_or left k 0) 10 at.1) (rw add-one (split_at left k 0 at.0)) in
     ap (λ (text : List ℕ). pieces_of limit (text ++ later)) parts
     ∙ ap (pieces_of limit) (append_assoc (take k left) (10 ∷ drop (k + 1) left) later)
     ∙ ap (map (piece_of limit)) (lines_from-line (take k left) [] (drop (k + 1) left ++ later) none)

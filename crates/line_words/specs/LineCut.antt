@@ -1,5 +1,5 @@
 -- A text that comes in pieces, cut into lines.
-use Rattle.std.specs.Prelude.{◌≡◌, ◌≢◌, ℕ, ◌+◌, ◌<◌, ◌≤◌, ◌==◌, Bool, nat_lt, if◌then◌else◌, List, [], ◌∷◌, ◌++◌, length, slice_index, take, drop, map, position, Option, Some, None}
+use Rattle.std.specs.Prelude.{◌≢◌, ℕ, ◌+◌, ◌<◌, ◌≤◌, ◌==◌, Bool, nat_lt, if◌then◌else◌, List, [], ◌∷◌, ◌++◌, length, slice_index, take, drop, map, position, Option, Some, None}
 use Rattle.line_words.specs.Lines.{lines_of, without_cr}
 use Rattle.line_words.specs.declared.line_cut.Cutting.{Cutting}
 use Rattle.line_words.specs.declared.line_cut.Cutting.TheVariants as cutting

@@ -10,6 +10,7 @@ use std::alloc::Global;
 use std::marker::Model;
 
 /// What is cut off.
+#[derive(Clone, Copy, Debug, PartialEq, Eq)]
 pub enum Cutting<'a> {
     /// A line without its line end.
     Line(&'a [u8]),
@@ -21,7 +22,7 @@ pub enum Cutting<'a> {
 
 /// Cuts a text that comes in pieces into lines. It keeps what has come of the line that has no end
 /// yet, up to the limit and one byte more.
-#[derive(Drop)]
+#[derive(Debug, Drop)]
 pub struct LineCut {
     limit: u64,
     buffer: Vec<u8>,

@@ -76,3 +76,25 @@ fn one_carriage_return_is_dropped(rt: HostRuntime) {
         assert_eq!(rt; without_cr(line.as_bytes()), want.as_bytes());
     }
 }
+
+#[test]
+fn pieces_are_cut_at_line_feeds(rt: HostRuntime) -> Result<(), Fail> {
+    let mut cut = LineCut::new(rt.alloc(), 4);
+    assert_eq!(rt; cut.next(), Cutting::NotYet);
+    cut.push(b"op").ok().ok_or("memory")?;
+    assert_eq!(rt; cut.next(), Cutting::NotYet);
+    cut.push(b"en\n\r\nabc\r\nopen\r\nopens and")
+        .ok()
+        .ok_or("memory")?;
+    assert_eq!(rt; cut.next(), Cutting::Line(b"open"));
+    assert_eq!(rt; cut.next(), Cutting::Line(b""));
+    assert_eq!(rt; cut.next(), Cutting::Line(b"abc"));
+    assert_eq!(rt; cut.next(), Cutting::Long);
+    assert_eq!(rt; cut.next(), Cutting::NotYet);
+    cut.push(b" shuts\ntx 1").ok().ok_or("memory")?;
+    assert_eq!(rt; cut.next(), Cutting::Long);
+    assert_eq!(rt; cut.next(), Cutting::NotYet);
+    assert_eq!(rt; cut.rest(), Cutting::Line(b"tx 1"));
+    assert_eq!(rt; cut.rest(), Cutting::NotYet);
+    Ok(())
+}

@@ -1,4 +1,4 @@
-use Rattle.std.proofs.Common.{List, ℕ, drop, None, Some}
+use Rattle.std.proofs.Common.{drop, None, Some}
 use Rattle.std.proofs.lemmas.List.{take_rest}
 use Rattle.memchr.specs.Find.{IsLastByte, is_byte}
 use Rattle.line_words.proofs.LastLine.{last_from-missed, last_from-found}

@@ -1,4 +1,4 @@
-use Rattle.std.proofs.Common.{◌≡◌, sym, ap, ◌∙◌, refl, arith, inl, inr, false, true, codes, length, eqb, ◌<◌}
+use Rattle.std.proofs.Common.{◌≡◌, sym, ap, ◌∙◌, refl, inr, false, true, codes, ◌<◌}
 use Rattle.std.specs.Str.{bytes_eq}
 use Rattle.hex.proofs.HexLemmas.{decode_of-ok}
 use Rattle.std.proofs.lemmas.Result.{err_from_is_err_and}

@@ -1,6 +1,6 @@
-use Rattle.std.proofs.Common.{◌≡◌, ◌+◌, ◌*◌, ◌^◌, ◌<◌, ℕ, ap, sym, ◌∙◌, arith, refl, length, take}
+use Rattle.std.proofs.Common.{◌≡◌, ◌^◌, ◌<◌, sym, arith, refl, length}
 use Rattle.std.proofs.lemmas.Bool.{eqb-true}
-use Rattle.line_words.proofs.Numerals.{number_of-none, number_of-some, number_of-far, is_numeral-empty, is_numeral-long, is_numeral-other, is_numeral-digits, value_below, ReadsDigits-more, number_of-read, value_is, above_zero}
+use Rattle.line_words.proofs.Numerals.{number_of-none, number_of-far, is_numeral-empty, is_numeral-long, is_numeral-other, value_below, ReadsDigits-more, number_of-read, value_is, above_zero}
 use Rattle.std.specs.Str.Parse.{digits_value}
 use Rattle.line_words.proofs.words.number.Goals as goal
 use Rattle.line_words.proofs.words.number.Goals.{then-is_empty-via-then-is_empty, then-is_empty-via-else-is_empty+then-word-gt19}

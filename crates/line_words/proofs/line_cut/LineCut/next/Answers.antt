@@ -1,7 +1,7 @@
-use Rattle.std.proofs.Common.{◌≡◌, ◌+◌, ℕ, List, length, take, drop, None, Some, Option, refl, sym, ap, ◌∙◌, arith, add_assoc}
+use Rattle.std.proofs.Common.{◌≡◌, ◌+◌, ℕ, List, length, take, drop, None, Some, Option, refl, sym, ap, ◌∙◌, add_assoc}
 use Rattle.std.proofs.lemmas.List.{take_rest, drop-take}
 use Rattle.memchr.specs.Find.{IsFirstByte, is_byte}
-use Rattle.line_words.specs.LineCut.{Uncut, Piece, next_cut, cut_of, piece_of}
+use Rattle.line_words.specs.LineCut.{Uncut, Piece}
 use Rattle.line_words.proofs.Feeds.{next_cut-missed, next_cut-found, IsSearched-kept}
 use Rattle.line_words.proofs.Pieces.{next_cut-lines}
 use Rattle.line_words.proofs.line_cut.LineCut.next.Goals as goal

@@ -1,6 +1,6 @@
-use Rattle.std.proofs.Common.{◌≡◌, ◌<◌, Some, ℕ, List, [], length, drop, take, refl, sym, ap, ◌∙◌, arith}
+use Rattle.std.proofs.Common.{◌≡◌, ◌<◌, Some, ℕ, List, [], length, drop, refl, sym, ap, ◌∙◌, arith}
 use Rattle.std.proofs.lemmas.List.{take_rest, drop_all}
-use Rattle.line_words.specs.LineCut.{Uncut, Piece, rest_cut, cut_of, piece_of, last_from}
+use Rattle.line_words.specs.LineCut.{Uncut, cut_of, piece_of, last_from}
 use Rattle.line_words.proofs.LastLine.{rest_cut-empty, rest_cut-line}
 use Rattle.line_words.proofs.Pieces.{rest_cut-lines}
 use Rattle.line_words.proofs.line_cut.LineCut.rest.Goals as goal
