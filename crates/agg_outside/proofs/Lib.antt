@@ -1,4 +1,2 @@
 pub mod FileOrder
-pub mod RowPlaces
 pub mod FileEdits
-pub mod RowSlots

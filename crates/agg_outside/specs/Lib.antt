@@ -4,7 +4,4 @@ pub mod RowOrder
 pub mod Files
 pub mod Links
 pub mod FileList
-pub mod Memory
-pub mod MemoryKeepers
 pub mod FilePlaces
-pub mod RowTree

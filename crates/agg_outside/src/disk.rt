@@ -1,5 +1,5 @@
 //! A folder of files as the session sees it.
-ghost use Rattle.std.specs.Prelude.{◌≡◌, ℕ, Option, Some, IfSome, IfOk, OnOk, OnErr, IsTrue, IsSomeAnd};
+ghost use Rattle.std.specs.Prelude.{◌≡◌, ℕ, Option, Some, None, IfSome, IfNone, IfOk, OnOk, OnErr, IsTrue, IsSomeAnd};
 ghost use Rattle.std.specs.Option.{ForSome};
 ghost use Rattle.std.specs.FinMap as map;
 ghost use Rattle.agg_outside.specs.Counts.{HasCause};
@@ -12,7 +12,8 @@ use std::alloc::Global;
 
 /// Holds a finite map from names to files.
 ///
-/// Whether it tells what it holds is its own choice; what it tells once it goes on telling.
+/// Whether it tells what it holds is its own choice, for good: what it tells once it goes on telling,
+/// and one that doesn't tell never does.
 pub trait Disk: Send + Drop {
     /// How often the disk has failed.
     ghost faults: { Self → ℕ };
@@ -37,6 +38,7 @@ pub trait Disk: Send + Drop {
     fn write_new(&mut self, alloc: Global, name: &[u8], bytes: &[u8]) -> Result<(), DiskError>
         ensures ok { IfSome (files self.old) (λ f. OnOk result (files self.new ≡ Some (map.insert f name.now bytes.now))) }
         ensures others { IfSome (files self.old) (λ f. IsSomeAnd (files self.new) (SameElsewhere name.now f)) }
+        ensures silent { IfNone (files self.old) (files self.new ≡ None) }
         ensures cause { HasCause DiskError.Failed (faults self.old) (faults self.new) result };
 
     /// Moves a file that exists over a name that may be taken. After an error it was done or not.
@@ -44,11 +46,13 @@ pub trait Disk: Send + Drop {
         requires { ForSome (files self.old) (λ f. IsTrue (map.contains_key f from.now)) }
         ensures ok { IfSome (files self.old) (λ f. OnOk result (files self.new ≡ Some (renamed from.now to.now f))) }
         ensures err { IfSome (files self.old) (λ f. OnErr result (WasDoneOrNot f (renamed from.now to.now f) (files self.new))) }
+        ensures silent { IfNone (files self.old) (files self.new ≡ None) }
         ensures cause { HasCause DiskError.Failed (faults self.old) (faults self.new) result };
 
     /// The name is absent then; an absent name is no error. After an error it was done or not.
     fn remove(&mut self, alloc: Global, name: &[u8]) -> Result<(), DiskError>
         ensures ok { IfSome (files self.old) (λ f. OnOk result (files self.new ≡ Some (map.remove f name.now))) }
         ensures err { IfSome (files self.old) (λ f. OnErr result (WasDoneOrNot f (map.remove f name.now) (files self.new))) }
+        ensures silent { IfNone (files self.old) (files self.new ≡ None) }
         ensures cause { HasCause DiskError.Failed (faults self.old) (faults self.new) result };
 }

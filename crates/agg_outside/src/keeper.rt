@@ -1,5 +1,5 @@
 //! The store of rows as the session sees it.
-ghost use Rattle.std.specs.Prelude.{◌≡◌, ℕ, Option, Some, IfSome, IfOk, OnOk, OnErr, IsTrue, take};
+ghost use Rattle.std.specs.Prelude.{◌≡◌, ℕ, Option, Some, None, IfSome, IfNone, IfOk, OnOk, OnErr, IsTrue, take};
 ghost use Rattle.std.specs.Option.{ForSome};
 ghost use Rattle.agg_outside.specs.Counts.{HasCause};
 ghost use Rattle.agg_outside.specs.Rows.{Held, ascends, first_from, last_before, rows_from, applied, CanApply};
@@ -10,7 +10,8 @@ use std::alloc::Global;
 
 /// Holds one list of rows, whose ids ascend strictly, and the floor.
 ///
-/// Whether it tells what it holds is its own choice; what it tells once it goes on telling.
+/// Whether it tells what it holds is its own choice, for good: what it tells once it goes on telling,
+/// and one that doesn't tell never does.
 pub trait Keeper: Send + Drop {
     /// How often the keeper has failed.
     ghost faults: { Self → ℕ };
@@ -51,6 +52,7 @@ pub trait Keeper: Send + Drop {
     fn apply(&mut self, alloc: Global, writes: &[RowWrite]) -> Result<(), KeeperError>
         requires { ForSome (held self.old) (CanApply writes.now) }
         ensures ok { IfSome (held self.old) (λ h. OnOk result (held self.new ≡ Some (applied writes.now h))) }
+        ensures silent { IfNone (held self.old) (held self.new ≡ None) }
         ensures err { OnErr result (held self.new ≡ held self.old) }
         ensures cause { HasCause KeeperError.Failed (faults self.old) (faults self.new) result };
 

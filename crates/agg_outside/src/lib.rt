@@ -1,5 +1,5 @@
 //! What the store takes from outside: byte texts, lists, and the traits of sources, sinks, disks,
-//! keepers, doors and gates, with objects of each in memory.
+//! keepers, doors and gates.
 #![tactic(auto)]
 
 mod bytes;
@@ -10,13 +10,10 @@ mod file_map;
 mod gate;
 mod keeper;
 mod list;
-mod memory;
 mod rows;
 mod sink;
 mod source;
 mod steps;
-#[cfg(test)]
-mod tests;
 
 pub use bytes::{Bytes, slice_fits};
 pub use disk::Disk;
@@ -26,9 +23,6 @@ pub use file_map::{FileEntry, FileMap};
 pub use gate::{Gate, NoGate, Point};
 pub use keeper::Keeper;
 pub use list::{Keys, ListOf, Names, Numbers};
-pub use memory::{
-    MemKeeper, MemSink, MemSource, SureDisk, SureDone, SureDoors, SureKeeper, SureSink, SureSource,
-};
 pub use rows::{KeeperStart, Row, RowId, RowWrite, Rowlist};
 pub use sink::Sink;
 pub use source::Source;

@@ -1,4 +1,4 @@
-ghost use Rattle.std.specs.Prelude.{◌≡◌, [], ◌∷◌, ◌++◌, ◌<◌, length, slice_get, OnOk, OnErr, OnSome};
+ghost use Rattle.std.specs.Prelude.{◌≡◌, [], ◌∷◌, ◌++◌, ◌<◌, length, slice_get, remove, Some, OnOk, OnErr, OnSome};
 ghost use Rattle.std.specs.Option.{option_copied};
 
 use crate::bytes::Bytes;
@@ -76,6 +76,15 @@ impl<T: Drop> ListOf<T> {
     {
         self.items.push(item)?;
         Ok(())
+    }
+
+    /// Takes the item at a place out; those behind it move up.
+    pub fn remove(&mut self, i: usize) -> T
+        requires { i < length self.old }
+        ensures item { slice_get self.old i ≡ Some result }
+        ensures others { self.new ≡ remove self.old i }
+    {
+        self.items.remove(i)
     }
 }
 

@@ -1,5 +1,0 @@
-use Rattle.agg_outside.proofs.RowSlots.{slots_ascend-sorted}
-use Rattle.agg_outside.proofs.memory.tree_writes.put_body.Goals as goal
-
-pub returns-clause-ascend : goal.returns-clause-ascend
-returns-clause-ascend c = slots_ascend-sorted c.args.rows.now.entries c.get_mut.ensures.ordered
