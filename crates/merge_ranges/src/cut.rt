@@ -12,9 +12,21 @@ pub type Cut = ListOf<Range>;
 
 /// The files of one entity over one range of steps.
 pub trait Group {
-    fn entity(&self) -> Entity;
+    ghost use Rattle.agg_model.specs.declared.entity.Entity.{Entity};
+    ghost use Rattle.agg_model.specs.declared.entity.Range.{Range};
+    ghost use Rattle.std.specs.Prelude.{◌≡◌};
 
-    fn range(&self) -> Range;
+    /// What the files are of.
+    ghost entity_of: { Self → Entity };
+
+    /// The steps that the files cover.
+    ghost range_of: { Self → Range };
+
+    fn entity(&self) -> Entity
+        ensures { result ≡ entity_of self.now };
+
+    fn range(&self) -> Range
+        ensures { result ≡ range_of self.now };
 }
 
 // The lengths of aligned ranges, the longest first.

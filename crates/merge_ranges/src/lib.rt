@@ -6,7 +6,7 @@ mod kind;
 mod name;
 mod text;
 
-pub use cut::{Cut, Group, canon_cut, canon_laws, next_merge};
+pub use cut::{Cut, Group, canon_cut, canon_laws, is_aligned_range, next_merge};
 pub use name::{DiskName, FileName, name_laws};
 
 #[cfg(test)]

@@ -31,6 +31,9 @@ fn the_largest_range_comes_first(rt: HostRuntime) -> Result<(), Fail> {
     let expected = cut_of(alloc, &[(0, 64), (64, 128), (128, 130)])?;
     assert!(rt; more.as_slice() == expected.as_slice());
     assert_eq!(rt; canon_cut(alloc, 4096)?.len(), 64);
+    assert!(rt; !is_aligned_range(Range { from: 1, to: 3 }));
+    canon_laws();
+    name_laws();
     Ok(())
 }
 
