@@ -34,7 +34,7 @@ gathered_more words at key out after new g e next is =
           ∙ ap (λ (n : ℕ). map (key_offset words) (range_with_len 0 n)) (sym len);
     }
 
-none_past : (b : Bool) (x : ℕ) → None ≡ cond b (Some x) None → b ≡ false
+pub none_past : (b : Bool) (x : ℕ) → None ≡ cond b (Some x) None → b ≡ false
 none_past true x e = absurd cc
 none_past false x e = refl
 

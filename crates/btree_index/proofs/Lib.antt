@@ -3,3 +3,4 @@ pub mod Spellings
 pub mod Searches
 pub mod Seeks
 pub mod Descents
+pub mod Ascents

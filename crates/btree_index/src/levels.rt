@@ -47,7 +47,7 @@ fn put_u64(out: &mut Vec<u8>, n: u64) -> Result<(), Memory>
 }
 
 /// The offset of the key after the one at `at`.
-fn key_after(words: &WordFile, at: u64) -> Option<u64>
+pub(crate) fn key_after(words: &WordFile, at: u64) -> Option<u64>
     requires { StartsAt words.now.words at }
     ensures { (i : ℕ) → IsPlace words.now.words at i → result ≡ offset_of words.now.words (i + 2) }
 {

@@ -6,3 +6,6 @@ mod levels;
 mod search;
 
 pub use file::BTreeFile;
+
+#[cfg(test)]
+mod tests;
