@@ -5,10 +5,10 @@ ghost use Rattle.agg_outside.specs.Counts.{HasCause};
 ghost use Rattle.memory_side.specs.Memory.{CallCount, called, fails_next};
 ghost use Rattle.agg_outside.specs.Rows.{Held, ascends, first_from, last_before, rows_from, applied, CanApply};
 
-use agg_outside::{Keeper, KeeperError, KeeperStart, Memory, Row, RowId, RowWrite, Rowlist};
 use crate::calls::Calls;
 use crate::row_places::{copy_rows, first_row_from, last_row_before, some_rows_from};
 use crate::row_writes::apply_all;
+use agg_outside::{Keeper, KeeperError, KeeperStart, Memory, Row, RowId, RowWrite, Rowlist};
 use std::alloc::Global;
 
 /// Keeps its rows in order in memory; the calls whose numbers it was made with answer `Failed`.

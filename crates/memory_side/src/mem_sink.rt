@@ -2,8 +2,8 @@
 ghost use Rattle.std.specs.Prelude.{◌≡◌, ◌++◌, ◌↔◌, IfOk, Some, Err, OnErr, IsTrue, length};
 ghost use Rattle.memory_side.specs.Memory.{FailingSink, CallCount, called, fails_next};
 
-use agg_outside::{Memory, Sink, SinkError};
 use crate::calls::Calls;
+use agg_outside::{Memory, Sink, SinkError};
 use std::alloc::Global;
 use std::marker::Model;
 

@@ -2,9 +2,9 @@
 ghost use Rattle.std.specs.Prelude.{◌≡◌, ◌≤◌, ◌↔◌, IfOk, IsErr, IsTrue, OnOk, OnErr, Some, drop, take, length};
 ghost use Rattle.memory_side.specs.Memory.{FailingSupply, Supply, CallCount, given_count, called, fails_next};
 
-use agg_outside::{Failed, Memory, Source};
 use crate::calls::Calls;
 use crate::pieces::Pieces;
+use agg_outside::{Failed, Memory, Source};
 use std::alloc::Global;
 use std::marker::Model;
 

@@ -5,8 +5,8 @@ ghost use Rattle.agg_outside.specs.Rows.{id_cmp, ascends, first_from, last_befor
 ghost use Rattle.memory_side.specs.RowTree.{rows_of, body_of};
 ghost use Rattle.std.specs.BTreeMap.{insert_entry};
 
-use agg_outside::{Memory, Row, RowId, Rowlist};
 use crate::row_body::RowBody;
+use agg_outside::{Memory, Row, RowId, Rowlist};
 use std::alloc::Global;
 use std::collections::BTreeMap;
 

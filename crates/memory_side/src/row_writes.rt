@@ -2,8 +2,8 @@
 ghost use Rattle.std.specs.Prelude.{◌≡◌, ◌<◌, ◌≤◌, ◌+◌, IsTrue, IfOk, OnErr, OnOk, length, vec_len, vec_capacity};
 ghost use Rattle.agg_outside.specs.Rows.{Held, ascends, written, CanWrite, applied, CanApply};
 
-use agg_outside::{Memory, Row, RowWrite, Rowlist};
 use crate::row_places::place_of;
+use agg_outside::{Memory, Row, RowWrite, Rowlist};
 use std::alloc::Global;
 use std::mem;
 

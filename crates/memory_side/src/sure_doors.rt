@@ -4,10 +4,10 @@ ghost use Rattle.std.specs.Option.{option_copied};
 ghost use Rattle.memory_side.specs.Memory.{Supply, DoorsTold, written_by};
 ghost use Rattle.agg_outside.specs.Links.{Closed};
 
-use agg_outside::{Bytes, Doors, Failed, Keys, Memory};
 use crate::sure_done::SureDone;
 use crate::sure_sink::SureSink;
 use crate::sure_source::SureSource;
+use agg_outside::{Bytes, Doors, Failed, Keys, Memory};
 use std::alloc::Global;
 use std::collections::VecDeque;
 use std::marker::Model;

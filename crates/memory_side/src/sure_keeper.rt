@@ -3,9 +3,9 @@ ghost use Rattle.std.specs.Prelude.{◌≡◌, IfOk, IsTrue};
 ghost use Rattle.agg_outside.specs.Rows.{ascends};
 ghost use Rattle.memory_side.specs.RowTree.{rows_of};
 
-use agg_outside::{Keeper, KeeperError, KeeperStart, Memory, Row, RowId, RowWrite, Rowlist};
 use crate::row_tree::{RowTree, first_row_from, last_row_before, some_rows_from, tree_of};
 use crate::tree_writes::apply_all;
+use agg_outside::{Keeper, KeeperError, KeeperStart, Memory, Row, RowId, RowWrite, Rowlist};
 use std::alloc::Global;
 
 /// Keeps its rows in a tree in memory, and never fails.

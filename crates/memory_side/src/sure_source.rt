@@ -2,8 +2,8 @@
 ghost use Rattle.std.specs.Prelude.{◌≡◌, ◌≤◌, IfOk, Some, drop, take, length, Ok};
 ghost use Rattle.memory_side.specs.Memory.{Supply, given_count};
 
-use agg_outside::{Failed, Memory, Source};
 use crate::pieces::Pieces;
+use agg_outside::{Failed, Memory, Source};
 use std::alloc::Global;
 use std::marker::Model;
 

@@ -7,10 +7,10 @@ ghost use Rattle.memory_side.specs.RowTree.{rows_of, has_slot, have_slots, slots
 ghost use Rattle.memory_side.specs.declared.row_body.RowBody.{RowBody};
 ghost use Rattle.agg_outside.specs.declared.rows.RowWrite.{RowWrite};
 
-use agg_outside::{Memory, Row, RowId, RowWrite};
 use crate::row_body::RowBody;
 use crate::row_tree::RowTree;
 use crate::row_writes::copy_writes;
+use agg_outside::{Memory, Row, RowId, RowWrite};
 use std::alloc::Global;
 
 // Makes a slot for the row of an insertion.
