@@ -1,6 +1,6 @@
 //! Standard output as a sink.
 ghost use Rattle.std.specs.Prelude.{◌≡◌, ◌<◌, ◌≤◌, None, IfOk, OnOk, OnErr, IsErr, length};
-ghost use Rattle.agg_outside.specs.Memory.{one_more};
+ghost use Rattle.real_side.specs.Faults.{one_more};
 
 use agg_outside::{Sink, SinkError};
 use std::io;

@@ -1,6 +1,6 @@
 //! Standard input as a source.
 ghost use Rattle.std.specs.Prelude.{◌≡◌, ◌≤◌, None, IfOk, OnOk, OnErr, length};
-ghost use Rattle.agg_outside.specs.Memory.{one_more};
+ghost use Rattle.real_side.specs.Faults.{one_more};
 
 use agg_outside::{Failed, Source};
 use std::io;
