@@ -1,0 +1,47 @@
+use Rattle.std.proofs.Common.{◌≡◌, true, is_some, Some, None, List, ℕ, ◌++◌, refl, ap, subst, sym, ◌∙◌, arith}
+use Rattle.line_words.specs.LineCut.{Uncut, next_cut}
+use Rattle.agg_session.proofs.ServingLaws.{next_cut-shorter, next_cut-no_longer, next_cut-none, answered_same, answered_more, none_there, if_none, if_some}
+use Rattle.agg_session.proofs.served.Served.answer_line.Goals as goal
+
+pub returns-in_err-text-clause-lines : goal.returns-in_err-text-clause-lines
+returns-in_err-text-clause-lines g c =
+    let left : c.next_reply.new.cut.left ≡ (next_cut c.args.self.now.cut).1 = ap (λ (u : Uncut). u.left) c.next_reply.ensures.cut in
+    rw left (omega (arith, next_cut-no_longer c.args.self.now.cut))
+
+pub returns-in_default-clause-lines : goal.returns-in_default-clause-lines
+returns-in_default-clause-lines g c =
+    let left : c.next_reply.new.cut.left ≡ (next_cut c.args.self.now.cut).1 = ap (λ (u : Uncut). u.left) c.next_reply.ensures.cut in
+    rw left (omega (arith, next_cut-no_longer c.args.self.now.cut))
+
+pub returns-in_default-clause-none : goal.returns-in_default-clause-none
+returns-in_default-clause-none g c =
+    let none : (next_cut c.args.self.now.cut).0 ≡ None = none_there (next_cut c.args.self.now.cut).0 (ap is_some (sym c.in_default.is) ∙ c.in_ok-text.ensures.found) in
+    subst (λ (u : Uncut). (next_cut u).0 ≡ None) (sym c.next_reply.ensures.cut) (next_cut-none c.args.self.now.cut none)
+
+pub returns-in_default-clause-answered : goal.returns-in_default-clause-answered
+returns-in_default-clause-answered g c = λ start text before all.
+    let none : (next_cut c.args.self.now.cut).0 ≡ None = none_there (next_cut c.args.self.now.cut).0 (ap is_some (sym c.in_default.is) ∙ c.in_ok-text.ensures.found) in
+    answered_same _ c.args.limits.now c.args.self.now _ _ start text before c.requires.sound c.next_reply.ensures.cut none (if_none _ _ c.in_default.is c.in_ok-text.ensures.none) refl all
+
+pub returns-in_err-put_all-clause-lines : goal.returns-in_err-put_all-clause-lines
+returns-in_err-put_all-clause-lines g c =
+    let left : c.next_reply.new.cut.left ≡ (next_cut c.args.self.now.cut).1 = ap (λ (u : Uncut). u.left) c.next_reply.ensures.cut in
+    let found : true ≡ is_some (next_cut c.args.self.now.cut).0 = ap is_some (sym c.in-Some.is) ∙ c.in_ok-text.ensures.found in
+    rw left (omega (arith, next_cut-shorter c.args.self.now.cut found))
+
+pub returns-clause-lines : goal.returns-clause-lines
+returns-clause-lines g c =
+    let left : c.next_reply.new.cut.left ≡ (next_cut c.args.self.now.cut).1 = ap (λ (u : Uncut). u.left) c.next_reply.ensures.cut in
+    let found : true ≡ is_some (next_cut c.args.self.now.cut).0 = ap is_some (sym c.in-Some.is) ∙ c.in_ok-text.ensures.found in
+    rw left (omega (arith, next_cut-shorter c.args.self.now.cut found))
+
+pub returns-clause-shorter : goal.returns-clause-shorter
+returns-clause-shorter g c =
+    let left : c.next_reply.new.cut.left ≡ (next_cut c.args.self.now.cut).1 = ap (λ (u : Uncut). u.left) c.next_reply.ensures.cut in
+    let found : true ≡ is_some (next_cut c.args.self.now.cut).0 = ap is_some (sym c.in-Some.is) ∙ c.in_ok-text.ensures.found in
+    rw left (next_cut-shorter c.args.self.now.cut found)
+
+pub returns-clause-answered : goal.returns-clause-answered
+returns-clause-answered g c = λ start text before all.
+    let found : true ≡ is_some (next_cut c.args.self.now.cut).0 = ap is_some (sym c.in-Some.is) ∙ c.in_ok-text.ensures.found in
+    answered_more _ c.args.limits.now c.args.self.now _ c.in-Some.text _ _ start text before c.requires.sound c.next_reply.ensures.cut found refl (λ s stands. if_some _ _ _ c.in-Some.is (c.in_ok-text.ensures.exact s stands)) (λ b told. subst (λ (p : List ℕ). g.O.Sink.bytes c.put_all.new.sink ≡ Some (b ++ p)) c.as_slice.ensures (c.in_ok-put_all.ensures.ok b told)) all

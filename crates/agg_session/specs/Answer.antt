@@ -1,0 +1,65 @@
+-- The replies of a session to a text, and the state after it.
+use Rattle.std.specs.Prelude.{◌≡◌, ◌⊎◌, ℕ, ◌+◌, List, [], ◌∷◌, ◌++◌, unwrap_or, Result, Ok, Err}
+use Rattle.agg_model.specs.ChangeList.{ChangeList}
+use Rattle.line_words.specs.declared.request.Request.{Request}
+use Rattle.line_words.specs.declared.request.LineError.{LineError}
+use Rattle.line_words.specs.declared.reply.Reply.TheVariants.{ErrSyntax}
+use Rattle.line_words.specs.LineCut.{Piece, Whole, TooLong, pieces_of}
+use Rattle.line_words.specs.Requests.{request_of}
+use Rattle.line_words.specs.Replies.{reply_text}
+use Rattle.agg_session.specs.declared.limits.Limits.{Limits}
+use Rattle.agg_session.specs.State.{State, Outcome, refused, outcome, starting}
+
+-- a line that is no request is refused
+abbrev pub read_outcome : Limits → Result Request LineError → State → Outcome
+read_outcome limits (Ok request) s = outcome limits request s
+read_outcome limits (Err error) s = refused s
+
+-- the state after a line, and the text of its reply
+pub record Step : Type 0 where
+  pub state : State
+  pub reply : List ℕ
+
+-- what is refused gets `err syntax` and the number of the line
+abbrev pub told : ℕ → Outcome → Step
+told number o = record { state = o.state; reply = reply_text (unwrap_or o.reply (ErrSyntax number)) }
+
+-- a line within the limit; an empty one has no reply
+abbrev pub short_step : Limits → ℕ → List ℕ → State → Step
+short_step limits number [] s = record { state = s; reply = [] }
+short_step limits number (b ∷ line) s = told number (read_outcome limits (request_of (b ∷ line)) s)
+
+-- a line as it is cut off: one that is too long is refused
+unfoldable pub step : Limits → ℕ → Piece → State → Step
+step limits number TooLong s = told number (refused s)
+step limits number (Whole line) s = short_step limits number line s
+
+-- the replies to lines, one for each, of which the first has the number
+abbrev pub replies : Limits → ℕ → List Piece → State → List (List ℕ)
+replies limits number [] s = []
+replies limits number (line ∷ lines) s =
+    (step limits number line s).reply ∷ replies limits (number + 1) lines (step limits number line s).state
+
+-- the state after lines
+abbrev pub state_after : Limits → ℕ → List Piece → State → State
+state_after limits number [] s = s
+state_after limits number (line ∷ lines) s = state_after limits (number + 1) lines (step limits number line s).state
+
+-- texts one after another
+abbrev pub joined : List (List ℕ) → List ℕ
+joined [] = []
+joined (text ∷ texts) = text ++ joined texts
+
+-- all replies of a session over the list to a text
+abbrev pub answer : Limits → ChangeList → List ℕ → List ℕ
+answer limits list text = joined (replies limits 1 (pieces_of limits.line text) (starting list))
+
+-- the list after a text
+abbrev pub after : Limits → ChangeList → List ℕ → ChangeList
+after limits list text = (state_after limits 1 (pieces_of limits.line text) (starting list)).list
+
+-- what was written is the first of the replies, and then a part of the next one
+abbrev pub IsPartway : List (List ℕ) → List ℕ → Type 0
+IsPartway [] out = out ≡ []
+IsPartway (reply ∷ rest) out =
+    ((more : List ℕ) × (reply ≡ out ++ more)) ⊎ ((behind : List ℕ) × (out ≡ reply ++ behind) × IsPartway rest behind)

@@ -1,0 +1,36 @@
+-- How a link ends, and whom it may blame.
+use Rattle.std.specs.Prelude.{◌≤◌, ℕ, Result, IsErrOf}
+use Rattle.agg_outside.specs.Counts.{Rose}
+use Rattle.agg_outside.specs.declared.errors.SinkError.{SinkError}
+use Rattle.agg_outside.specs.declared.errors.SinkError.TheVariants as sink
+use Rattle.agg_session.specs.declared.stop.Stop.{Stop}
+use Rattle.agg_session.specs.declared.stop.Stop.TheVariants as stops
+use Rattle.agg_session.specs.declared.ends.LinkEnd.{LinkEnd}
+use Rattle.agg_session.specs.declared.ends.LinkEnd.TheVariants as ends
+
+abbrev pub end_of_stop : Stop → LinkEnd
+end_of_stop stops.Keeper = ends.Keeper
+end_of_stop stops.Memory = ends.Memory
+
+abbrev pub end_of_sink : SinkError → LinkEnd
+end_of_sink sink.Failed = ends.Sink
+end_of_sink sink.Memory = ends.Memory
+
+-- the counts of faults of keeper and sink
+pub record Faults : Type 0 where
+  pub keeper : ℕ
+  pub sink : ℕ
+
+-- the counts don't fall, and each device is blamed only where its count rose
+pub record IsBlamed {T : Type 0} (before now : Faults) (result : Result T LinkEnd) : Type 0 where
+  pub keeper_stays : before.keeper ≤ now.keeper
+  pub sink_stays : before.sink ≤ now.sink
+  pub keeper : IsErrOf result ends.Keeper → Rose before.keeper now.keeper
+  pub sink : IsErrOf result ends.Sink → Rose before.sink now.sink
+  -- the other ends have no place here
+  pub other : IsErrOf result ends.Done → ⊥
+  pub source : IsErrOf result ends.Source → ⊥
+  pub long : IsErrOf result ends.Long → ⊥
+
+abbrev pub faults_of : ℕ → ℕ → Faults
+faults_of keeper sink = record { keeper = keeper; sink = sink }

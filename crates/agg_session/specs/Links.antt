@@ -1,0 +1,52 @@
+-- When a link's fields are in order, and which state they stand for.
+use Rattle.std.specs.Prelude.{◌≡◌, ℕ, ◌<◌, ◌≤◌, ◌^◌, List, [], ◌∷◌, map, length, Option, Some, None, unwrap_or, IfSome, slice_get, remove, ◌==◌, if◌then◌else◌, All}
+use Rattle.agg_model.specs.Batch.{IsBatch, content_of}
+use Rattle.agg_model.specs.declared.change.Change.{Change}
+use Rattle.agg_session.specs.declared.limits.Limits.{Limits}
+use Rattle.agg_session.specs.declared.link.Link.{Link}
+use Rattle.agg_session.specs.declared.link.Transaction.{Transaction}
+use Rattle.agg_session.specs.State.{State, Opening}
+
+-- the limits of a program that adds without a check
+pub record AreLimits (limits : Limits) : Type 0 where
+  pub content : limits.content ≤ 2 ^ 28
+  pub bytes : limits.bytes ≤ 2 ^ 40
+
+-- with numbers below far
+pub record IsLink (limits : Limits) (far : ℕ) (link : Link) : Type 0 where
+  pub held : link.held ≡ content_of link.pending
+  pub within : link.held ≤ limits.content
+  pub pending : IsBatch 0 far link.pending
+  pub latest_first : All (λ (c : Change). c.tx ≤ unwrap_or link.now 0) link.pending
+  pub near : unwrap_or link.now 0 < far
+
+-- a link before its first line
+abbrev pub fresh : Link
+fresh = record { pending = []; held = 0; now = None; opens = 0; transactions = [] }
+
+-- below which number the transaction reads, where it is open
+abbrev pub at_of : ℕ → List Transaction → Option ℕ
+at_of number [] = None
+at_of number (t ∷ ts) = if t.number == number then Some t.at else at_of number ts
+
+-- the transactions without the first of this number
+abbrev pub others : ℕ → List Transaction → List Transaction
+others number [] = []
+others number (t ∷ ts) = if t.number == number then ts else t ∷ others number ts
+
+-- the transaction at the place is the first of this number
+pub record IsPlaceOf (number : ℕ) (ts : List Transaction) (i : ℕ) : Type 0 where
+  pub within : i < length ts
+  pub there : IfSome (slice_get ts i) (λ t. at_of number ts ≡ Some t.at)
+  pub rest : others number ts ≡ remove ts i
+
+-- an open transaction as the link has it
+abbrev pub transaction_of : Opening → Transaction
+transaction_of o = record { number = o.number; at = o.list.next }
+
+-- the link has what the state has beside the list
+pub record LinkStands (link : Link) (s : State) : Type 0 where
+  pub pending : link.pending ≡ s.pending
+  pub now : link.now ≡ s.now
+  pub opens : link.opens ≡ s.opens
+  pub transactions : link.transactions ≡ map transaction_of s.transactions

@@ -1,0 +1,83 @@
+//! The session: lines in, replies out, over a keeper of rows; and the program that runs one over its
+//! standard input and output.
+#![tactic(auto)]
+
+mod ends;
+mod limits;
+mod line;
+mod link;
+mod run;
+mod served;
+mod serving;
+mod session;
+mod status;
+mod stop;
+mod store;
+mod taking;
+#[cfg(test)]
+mod tests;
+
+use agg_outside::{FileMap, KeeperStart, Keys, Memory, NoGate, Rowlist};
+pub use ends::LinkEnd;
+pub use limits::Limits;
+pub use link::{Link, Transaction};
+use memory_side::{SureDisk, SureDoors, SureKeeper};
+use real_side::{StdSink, StdSource};
+pub use run::{Ended, aggregate, run_plain};
+pub use served::Served;
+pub use serving::put_all;
+pub use session::Session;
+pub use status::Status;
+use std::env;
+use std::process::ExitCode;
+use std::rt::{Clock, Env};
+use std::sync::Wait;
+use std::thread::Threads;
+pub use stop::Stop;
+pub use store::{Accepted, Store};
+pub use taking::serve;
+
+// Runs the command of the words over an empty disk and an empty keeper in memory.
+fn run_words<R>(rt: &R) -> Result<Status, Memory>
+where
+    R: AllocGlobal + Env + Input + Print + Clock + Threads + Wait + Sync,
+    R::Reader: Drop,
+{
+    let alloc = rt.alloc();
+    let mut words = Vec::new(alloc);
+    let Ok(args) = env::args(rt) else {
+        return Err(Memory);
+    };
+    for word in args.skip(1) {
+        words.push(word)?;
+    }
+    let disk = SureDisk::new(alloc, &FileMap::new(alloc))?;
+    let rows = KeeperStart {
+        rows: Rowlist::new(alloc),
+        floor: 0,
+    };
+    let keeper = SureKeeper::new(alloc, &rows)?;
+    let mut doors = SureDoors::new(alloc, &Keys::new(alloc))?;
+    let mut source = StdSource::new(rt);
+    let mut sink = StdSink::new(rt);
+    let ended = aggregate(
+        rt,
+        alloc,
+        words.as_slice(),
+        &mut source,
+        &mut sink,
+        &mut doors,
+        disk,
+        keeper,
+        &NoGate,
+    );
+    Ok(ended.status)
+}
+
+fn main(rt: HostRuntime) -> ExitCode {
+    let status = run_words(&rt).unwrap_or(Status::Memory);
+    if let Some(text) = status.text() {
+        let _ = rt.eprintln(text);
+    }
+    ExitCode::from(status.number())
+}

@@ -1,0 +1,115 @@
+//! A text that comes in pieces: each line is answered before the next is worked on.
+ghost use Rattle.std.specs.Prelude.{◌≡◌, ◌<◌, ◌≤◌, ◌^◌, ◌+◌, ◌++◌, [], ℕ, List, length, IfOk, OnOk, None};
+ghost use Rattle.std.specs.Bool.{OnTrue, OnFalse};
+ghost use Rattle.line_words.specs.LineCut.{next_cut, rest_cut};
+ghost use Rattle.agg_session.specs.State.{State};
+ghost use Rattle.agg_session.specs.Ends.{IsBlamed, faults_of};
+ghost use Rattle.agg_session.specs.Served.{IsServed, IsAnswered, HasAnswered};
+
+use crate::ends::LinkEnd;
+use crate::limits::Limits;
+use crate::serving::{last_reply, next_reply, put_all};
+use crate::session::Session;
+use agg_outside::{Keeper, Sink};
+use line_words::LineCut;
+use std::alloc::Global;
+
+/// A session at work on a text.
+#[derive(Drop)]
+pub struct Served<K: Keeper> {
+    pub cut: LineCut,
+    pub session: Session<K>,
+    /// How many lines were cut off, over-long and empty ones too.
+    pub lines: u64,
+}
+
+impl<K: Keeper> Served<K> {
+    // Answers the next line that has its line feed, and says whether there was one.
+    fn answer_line<O: Sink>(
+        &mut self,
+        alloc: Global,
+        limits: &Limits,
+        sink: &mut O,
+    ) -> Result<bool, LinkEnd>
+        requires limit { limits.now.content ≤ 2 ^ 28 }
+        requires lines { self.old.lines < 2 ^ 63 }
+        requires sound { IsServed K.held limits.now self.old }
+        ensures sound { OnOk result (IsServed K.held limits.now self.new) }
+        ensures lines { self.new.lines + length self.new.cut.left ≤ self.old.lines + length self.old.cut.left }
+        ensures shorter { IfOk result (λ found. OnTrue found (length self.new.cut.left < length self.old.cut.left)) }
+        ensures none { IfOk result (λ found. OnFalse found ((next_cut self.new.cut).0 ≡ None)) }
+        ensures answered { (start : State) (text before : List ℕ) → IsAnswered K.held limits.now self.old (O.bytes sink.old) start text before → OnOk result (IsAnswered K.held limits.now self.new (O.bytes sink.new) start text before) }
+        ensures blamed { IsBlamed (faults_of (K.faults self.old.session.store.keeper) (O.faults sink.old)) (faults_of (K.faults self.new.session.store.keeper) (O.faults sink.new)) result }
+    {
+        let number = self.lines + 1;
+        let Some(text) = next_reply(alloc, limits, number, &mut self.cut, &mut self.session)? else {
+            return Ok(false);
+        };
+        self.lines = number;
+        put_all(sink, text.as_slice())?;
+        Ok(true)
+    }
+
+    // Answers all lines that have their line feed.
+    fn answer_lines<O: Sink>(
+        &mut self,
+        alloc: Global,
+        limits: &Limits,
+        sink: &mut O,
+    ) -> Result<(), LinkEnd>
+        requires limit { limits.now.content ≤ 2 ^ 28 }
+        requires lines { self.old.lines + length self.old.cut.left < 2 ^ 63 }
+        requires sound { IsServed K.held limits.now self.old }
+        ensures sound { OnOk result (IsServed K.held limits.now self.new) }
+        ensures lines { self.new.lines + length self.new.cut.left ≤ self.old.lines + length self.old.cut.left }
+        ensures none { OnOk result ((next_cut self.new.cut).0 ≡ None) }
+        ensures answered { (start : State) (text before : List ℕ) → IsAnswered K.held limits.now self.old (O.bytes sink.old) start text before → OnOk result (IsAnswered K.held limits.now self.new (O.bytes sink.new) start text before) }
+        ensures blamed { IsBlamed (faults_of (K.faults self.old.session.store.keeper) (O.faults sink.old)) (faults_of (K.faults self.new.session.store.keeper) (O.faults sink.new)) result }
+    {
+        while self.answer_line(alloc, limits, sink)? {}
+        Ok(())
+    }
+
+    /// Takes the next piece of the text, and answers all lines that have their line feed.
+    pub fn feed<O: Sink>(
+        &mut self,
+        alloc: Global,
+        limits: &Limits,
+        piece: &[u8],
+        sink: &mut O,
+    ) -> Result<(), LinkEnd>
+        requires limit { limits.now.content ≤ 2 ^ 28 }
+        requires lines { self.old.lines + length self.old.cut.left + length piece.now < 2 ^ 63 }
+        requires sound { IsServed K.held limits.now self.old }
+        ensures sound { OnOk result (IsServed K.held limits.now self.new) }
+        ensures lines { self.new.lines + length self.new.cut.left ≤ self.old.lines + length self.old.cut.left + length piece.now }
+        ensures none { OnOk result ((next_cut self.new.cut).0 ≡ None) }
+        ensures answered { (start : State) (text before : List ℕ) → IsAnswered K.held limits.now self.old (O.bytes sink.old) start text before → OnOk result (IsAnswered K.held limits.now self.new (O.bytes sink.new) start (text ++ piece.now) before) }
+        ensures blamed { IsBlamed (faults_of (K.faults self.old.session.store.keeper) (O.faults sink.old)) (faults_of (K.faults self.new.session.store.keeper) (O.faults sink.new)) result }
+    {
+        self.cut.push(piece)?;
+        self.answer_lines(alloc, limits, sink)
+    }
+
+    /// Answers the last line, which has no line feed, where it has bytes.
+    pub fn finish<O: Sink>(
+        &mut self,
+        alloc: Global,
+        limits: &Limits,
+        sink: &mut O,
+    ) -> Result<(), LinkEnd>
+        requires limit { limits.now.content ≤ 2 ^ 28 }
+        requires lines { self.old.lines < 2 ^ 63 }
+        requires sound { IsServed K.held limits.now self.old }
+        requires none { (next_cut self.old.cut).0 ≡ None }
+        ensures answered { (start : State) (text before : List ℕ) → IsAnswered K.held limits.now self.old (O.bytes sink.old) start text before → OnOk result (HasAnswered K.held limits.now self.new (O.bytes sink.new) start text before) }
+        ensures blamed { IsBlamed (faults_of (K.faults self.old.session.store.keeper) (O.faults sink.old)) (faults_of (K.faults self.new.session.store.keeper) (O.faults sink.new)) result }
+    {
+        let number = self.lines + 1;
+        let Some(text) = last_reply(alloc, limits, number, &mut self.cut, &mut self.session)? else {
+            return Ok(());
+        };
+        self.lines = number;
+        Ok(put_all(sink, text.as_slice())?)
+    }
+}

@@ -1,0 +1,46 @@
+/// How the program ends.
+#[derive(Clone, Copy, Debug, PartialEq, Eq)]
+pub enum Status {
+    /// The input was read to its end, and every line was answered.
+    Done,
+    /// The words are none of the program's commands.
+    Usage,
+    /// The source counted a fault.
+    SourceFault,
+    /// The sink counted a fault.
+    SinkFault,
+    /// The keeper counted a fault.
+    KeeperFault,
+    /// Memory could not be had.
+    Memory,
+    /// As many bytes were taken as may be.
+    Long,
+}
+
+impl Status {
+    /// The exit status of the program.
+    pub fn number(self) -> u8 {
+        match self {
+            Status::Done => 0,
+            Status::Usage => 1,
+            Status::SourceFault => 3,
+            Status::SinkFault => 4,
+            Status::KeeperFault => 6,
+            Status::Memory => 7,
+            Status::Long => 9,
+        }
+    }
+
+    /// The line on standard error; none where all went well.
+    pub fn text(self) -> Option<&'static str> {
+        match self {
+            Status::Done => None,
+            Status::Usage => Some("aggregator: usage"),
+            Status::SourceFault => Some("aggregator: source fault"),
+            Status::SinkFault => Some("aggregator: sink fault"),
+            Status::KeeperFault => Some("aggregator: keeper fault"),
+            Status::Memory => Some("aggregator: out of memory"),
+            Status::Long => Some("aggregator: input too long"),
+        }
+    }
+}

@@ -1,0 +1,91 @@
+ghost use Rattle.std.specs.Prelude.{◌≤◌};
+
+use crate::*;
+use agg_outside::*;
+use memory_side::*;
+use std::alloc::Global;
+use std::process::Abort;
+use std::test::Fail;
+
+const FIRST_PATH: &[u8] =
+    b"tx 0\nput accounts aa 01\ncommit\nopen\nlatest 1 accounts aa\nlatest 1 accounts bb\nclose 1\n";
+
+const FIRST_REPLIES: &[u8] = b"ok\nok\ncommitted 1 1\nopened 1 1\nvalue 01\nnone\nok\n";
+
+// A run at the usual step size and limits, over an empty disk and keeper.
+fn status_of_run<I: Source, O: Sink>(
+    alloc: Global,
+    source: &mut I,
+    sink: &mut O,
+) -> Result<Status, Memory> {
+    let disk = SureDisk::new(alloc, &FileMap::new(alloc))?;
+    let rows = KeeperStart {
+        rows: Rowlist::new(alloc),
+        floor: 0,
+    };
+    let keeper = SureKeeper::new(alloc, &rows)?;
+    let limits = Limits::usual();
+    Ok(run_plain(alloc, disk, keeper, 1_562_500, &limits, source, sink).status)
+}
+
+// The text gets these replies, where at most `most` bytes come at a time.
+fn expect_replies(
+    rt: &impl Abort,
+    alloc: Global,
+    most: usize,
+    text: &[u8],
+    replies: &[u8],
+) -> Result<(), Fail>
+    requires { 1 ≤ most }
+{
+    let mut source = SureSource::new(alloc, text)?;
+    source.piece(most);
+    let mut sink = SureSink::new(alloc, &[])?;
+    assert_eq!(rt; status_of_run(alloc, &mut source, &mut sink)?, Status::Done);
+    assert_eq!(rt; sink.bytes(), replies);
+    Ok(())
+}
+
+#[test]
+fn pieces_of_any_length_get_the_same_replies(rt: HostRuntime) -> Result<(), Fail> {
+    let alloc = rt.alloc();
+    expect_replies(&rt, alloc, 1, FIRST_PATH, FIRST_REPLIES)?;
+    expect_replies(&rt, alloc, 4096, FIRST_PATH, FIRST_REPLIES)?;
+    expect_replies(&rt, alloc, 4096, b"", b"")
+}
+
+#[test]
+fn refused_lines_change_nothing_and_a_refused_commit_clears(rt: HostRuntime) -> Result<(), Fail> {
+    let text =
+        b"tx 5\nput accounts aa 01\ncommit\ntx 5\nput accounts aa 02\ncommit\ncommit\ntx 8\ntx 7\nput accounts aa 03\ncommit\nput accounts aa 04\nmark accounts aa\nclose 9\n";
+    let replies =
+        b"ok\nok\ncommitted 1 6\nok\nok\nerr syntax 6\nerr syntax 7\nok\nerr syntax 9\nok\ncommitted 1 9\nerr syntax 12\nerr syntax 13\nerr syntax 14\n";
+    expect_replies(&rt, rt.alloc(), 4096, text, replies)
+}
+
+#[test]
+fn line_ends_and_spaces_are_those_of_the_grammar(rt: HostRuntime) -> Result<(), Fail> {
+    let text =
+        b"tx 1\r\nput accounts AA 0F\r\ncommit\r\nopen\r\nlatest  1 accounts aa\r\nlatest 1 accounts a\r\n\r\nlatest 1 accounts aa";
+    let replies = b"ok\nok\ncommitted 1 2\nopened 1 2\nerr syntax 5\nerr syntax 6\nvalue 0f\n";
+    expect_replies(&rt, rt.alloc(), 4096, text, replies)
+}
+
+#[test]
+fn of_two_puts_in_one_transaction_the_last_stands(rt: HostRuntime) -> Result<(), Fail> {
+    let text =
+        b"tx 3\nput accounts aa 01\nput accounts aa 02\ncommit\nopen\nlatest 1 accounts aa\n";
+    let replies = b"ok\nok\nok\ncommitted 1 4\nopened 1 4\nvalue 02\n";
+    expect_replies(&rt, rt.alloc(), 4096, text, replies)
+}
+
+#[test]
+fn a_source_that_fails_ends_the_run(rt: HostRuntime) -> Result<(), Fail> {
+    let alloc = rt.alloc();
+    let mut source = MemSource::new(alloc, b"tx 1\nput acc", &[2])?;
+    let mut sink = SureSink::new(alloc, &[])?;
+    let status = status_of_run(alloc, &mut source, &mut sink)?;
+    assert_eq!(rt; status, Status::SourceFault);
+    assert_eq!(rt; sink.bytes(), b"ok\n".as_slice());
+    Ok(())
+}
