@@ -1,0 +1,42 @@
+//! The parts of the store that `bench/` measures from outside: `bench_parts PART COUNT` runs one over so
+//! many items, and prints a checksum.
+#![tactic(auto)]
+
+mod words;
+
+use agg_outside::Memory;
+use std::env;
+use std::marker::Brand;
+use std::process::ExitCode;
+use std::rt::Env;
+use std::sync::ledger::Blank;
+use words::sum_of_words;
+
+// The checksum that the arguments ask for; none where they ask for no part.
+fn sum_of_part<R: AllocGlobal + Env>(rt: &R) -> Result<Option<u64>, Memory> {
+    let Ok(mut args) = env::args(rt) else {
+        return Err(Memory);
+    };
+    let _ = args.next();
+    let (Some(part), Some(count)) = (args.next(), args.next()) else {
+        return Ok(None);
+    };
+    let Ok(count) = count.parse::<u64>() else {
+        return Ok(None);
+    };
+    match part.as_str() {
+        "words" => Ok(Some(sum_of_words::<Brand>(rt.alloc(), count, Blank::new(1))?)),
+        _ => Ok(None),
+    }
+}
+
+fn main(rt: HostRuntime) -> ExitCode {
+    match sum_of_part(&rt) {
+        Ok(Some(sum)) => {
+            let _ = println!(rt; "{sum}");
+            ExitCode::from(0u8)
+        }
+        Ok(None) => ExitCode::from(1u8),
+        Err(Memory) => ExitCode::from(2u8),
+    }
+}
