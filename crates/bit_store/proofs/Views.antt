@@ -73,6 +73,27 @@ ones_field a w word xs e = ones_more a w xs ∙ ap (λ n. ones_of (take a xs) + 
 pub ones_mod_add : (n j k : ℕ) → count_ones (n % 2 ^ (j + k)) ≡ count_ones (n / 2 ^ k % 2 ^ j) + count_ones (n % 2 ^ k)
 ones_mod_add n j k = ap count_ones (mod-pow-add n j k) ∙ ones_cat k (n / 2 ^ k % 2 ^ j) (n % 2 ^ k) (mod-lt n (pow_pos k))
 
+-- a bit among the low bits
+low_bit : (n w p : ℕ) → p < w → n / 2 ^ p % 2 ≡ n % 2 ^ w / 2 ^ p % 2
+low_bit n w p lt =
+    let e : (w - p) + p ≡ w = omega arith in
+    let field : n % 2 ^ w / 2 ^ p ≡ n / 2 ^ p % 2 ^ (w - p) = ap (λ k. n % 2 ^ k / 2 ^ p) (sym e) ∙ field_of n (w - p) p in
+    sym (ap (λ x. x % 2) field ∙ low_of_low (n / 2 ^ p) 1 (w - p) (omega arith))
+
+-- a bit of a word, and the bits of the word before it
+pub bit_of_part : (bits : List Bool) (at w word p : ℕ) → p < w → word ≡ number_of (take w (drop at bits)) → number_of bits / 2 ^ (at + p) % 2 ≡ word / 2 ^ p % 2
+bit_of_part bits at w word p inside e =
+    ap (λ x. x % 2) (sym (shr-shr (number_of bits) at p)) ∙ ap (λ x. x / 2 ^ p % 2) (sym (number_of-drop at bits)) ∙ low_bit (number_of (drop at bits)) w p inside ∙ ap (λ x. x / 2 ^ p % 2) (sym (number_of-take w (drop at bits)) ∙ sym e)
+
+pub front_of_part : (bits : List Bool) (at w word p : ℕ) → p < w → word ≡ number_of (take w (drop at bits)) → number_of (take p (drop at bits)) ≡ word % 2 ^ p
+front_of_part bits at w word p inside e =
+    number_of-take p (drop at bits) ∙ sym (ap (λ x. x % 2 ^ p) (e ∙ number_of-take w (drop at bits)) ∙ low_of_low (number_of (drop at bits)) p w (omega arith))
+
+pub part_below : (bits : List Bool) (at w word : ℕ) → at + w ≤ length bits → word ≡ number_of (take w (drop at bits)) → word < 2 ^ w
+part_below bits at w word le e =
+    let field = take w (drop at bits) in
+    rw e (subst (λ n. number_of field < 2 ^ n) (omega (arith, length-take w (drop at bits), length-drop at bits)) (number_of-lt field))
+
 -- a place in a word is a place in the bits
 pub record Placed (bits : List Bool) (at w p k : ℕ) : Type 0 where
   pub within : p < w
@@ -81,8 +102,7 @@ pub record Placed (bits : List Bool) (at w p k : ℕ) : Type 0 where
 
 pub placed : (bits : List Bool) (at w word p k : ℕ) → at + w ≤ length bits → word ≡ number_of (take w (drop at bits)) → IsPlaceIn word k p → Placed bits at w p k
 placed bits at w word p k le e place =
-    let field = take w (drop at bits) in
-    let small : word < 2 ^ w = rw e (subst (λ n. number_of field < 2 ^ n) (omega (arith, length-take w (drop at bits), length-drop at bits)) (number_of-lt field)) in
+    let small : word < 2 ^ w = part_below bits at w word le e in
     let inside : p < w =
     elim (cases_lt p w) [
       | inl lt ↦ lt
@@ -91,21 +111,13 @@ placed bits at w word p k le e place =
           let none : word / 2 ^ p ≡ 0 = div-eq_of_lt (omega arith) in
           absurd (omega (arith, place.one, ap (λ x. x % 2) none))
     ] in
-    let digit_is : number_of bits / 2 ^ (at + p) % 2 ≡ 1 =
-    ap (λ x. x % 2) (sym (shr-shr (number_of bits) at p)) ∙ ap (λ x. x / 2 ^ p % 2) (sym (number_of-drop at bits)) ∙ low_bit (number_of (drop at bits)) w p inside ∙ ap (λ x. x / 2 ^ p % 2) (sym (number_of-take w (drop at bits)) ∙ sym e) ∙ place.one in
-    let front : number_of (take p (drop at bits)) ≡ word % 2 ^ p = number_of-take p (drop at bits) ∙ sym (ap (λ x. x % 2 ^ p) (e ∙ number_of-take w (drop at bits)) ∙ low_of_low (number_of (drop at bits)) p w (omega arith)) in
+    let digit_is : number_of bits / 2 ^ (at + p) % 2 ≡ 1 = bit_of_part bits at w word p inside e ∙ place.one in
+    let front = front_of_part bits at w word p inside e in
     record {
       within = inside;
       one = (omega arith, digit-one _ (sym (digit-get bits (at + p)) ∙ digit_is));
       before = ones_field at p (word % 2 ^ p) bits (sym front) ∙ ap (λ n. ones_of (take at bits) + n) place.before;
     }
-  where
-    -- a bit among the low bits
-    low_bit : (n w p : ℕ) → p < w → n / 2 ^ p % 2 ≡ n % 2 ^ w / 2 ^ p % 2
-    low_bit n w p lt =
-        let e : (w - p) + p ≡ w = omega arith in
-        let field : n % 2 ^ w / 2 ^ p ≡ n / 2 ^ p % 2 ^ (w - p) = ap (λ k. n % 2 ^ k / 2 ^ p) (sym e) ∙ field_of n (w - p) p in
-        sym (ap (λ x. x % 2) field ∙ low_of_low (n / 2 ^ p) 1 (w - p) (omega arith))
 
 -- the place of the lowest 1
 pub lowest : (word : ℕ) → 0 < word → word < 2 ^ 64 → IsPlaceIn word 0 (trailing_zeros w64 word)

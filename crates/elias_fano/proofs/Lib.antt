@@ -2,6 +2,8 @@ mod Rows
 pub mod Lower
 pub mod Upper
 pub mod Places
+pub mod Bounds
+pub mod Marked
 pub mod Faults
 pub mod Widths
 pub mod Checked
