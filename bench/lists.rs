@@ -3,7 +3,7 @@
 
 use std::hint::black_box;
 
-const ROUNDS: u64 = 4;
+const ROUNDS: u64 = 8;
 
 fn drawn(before: u64) -> u64 {
     let first = before ^ (before << 13);

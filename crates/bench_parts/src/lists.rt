@@ -3,7 +3,7 @@ use agg_outside::{Bytes, Memory};
 use elias_fano::{EfList, encode};
 use std::alloc::Global;
 
-const ROUNDS: u64 = 4;
+const ROUNDS: u64 = 8;
 
 // The number drawn after this one.
 fn drawn(before: u64) -> u64 {

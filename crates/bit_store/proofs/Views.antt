@@ -5,14 +5,14 @@ use Rattle.std.proofs.lemmas.Nat.{pow_pos, pow-add, mod-pow-add, shr_split, shr-
 use Rattle.std.proofs.lemmas.Nat.Bits.{bit_at-trailing_zeros, same_from_bits, bit_at_cat_low, bit_at_above, bit_at-zero}
 use Rattle.std.proofs.lemmas.Bool.{cases_lt}
 use Rattle.std.proofs.lemmas.List.{length-take, length-drop, take-append-drop, take-take, drop-take, drop-drop, take_all, drop_more}
-use Rattle.std.specs.Int.{w64, bit_at, trailing_zeros}
+use Rattle.std.specs.Int.{w64, bit_at, trailing_zeros, from_le_bytes}
 use Rattle.std.specs.Int.RustNames.{count_ones}
 use Rattle.std.specs.Int.Count.{ones_step}
 use Rattle.bit_store.specs.Bits.{digit, number_of, ones_of, bits_of, IsOneAt}
 use Rattle.bit_store.specs.Counts.{number_in, IsPlaceIn}
 use Rattle.bit_store.proofs.Numbers.{digit-lt, number_of-take, number_of-drop, number_of-lt, ones-number_of, ones_of-append}
 use Rattle.bit_store.proofs.Writing.{low_of_low}
-use Rattle.bit_store.proofs.Texts.{IsBytes, bits_of-take, bits_of-drop, number_in-cons, number_in-nil, number_in-lt, number_in-step}
+use Rattle.bit_store.proofs.Texts.{IsBytes, bits_of-take, bits_of-drop, number_in-cons, number_in-nil, number_in-lt, number_in-step, le_word8, IsBytes-take, IsBytes-drop}
 
 -- a part of the first bits is that part of all
 pub part_of_front : (w s k : ℕ) (xs : List Bool) → s + w ≤ k → take w (drop s (take k xs)) ≡ take w (drop s xs)
@@ -31,6 +31,16 @@ field_in bytes i w len k wide within =
     let from : take w (drop s (take (8 * k) (drop (8 * q) all))) ≡ take w (drop i all) = part_of_front w s (8 * k) (drop (8 * q) all) wide ∙ ap (take w) (drop-drop s (8 * q) all ∙ ap (λ n. drop n all) place) in
     let num : number_of (take w (drop s (take (8 * k) (drop (8 * q) all)))) ≡ number_of (take (8 * k) (drop (8 * q) all)) / 2 ^ s % 2 ^ w = number_of-take w (drop s (take (8 * k) (drop (8 * q) all))) ∙ ap (λ x. x % 2 ^ w) (number_of-drop s (take (8 * k) (drop (8 * q) all))) in
     ap (λ x. number_of x / 2 ^ s % 2 ^ w) bits ∙ sym num ∙ ap number_of (from ∙ sym (part_of_front w i len all within))
+
+-- a word of 64 bits from the start of a byte on
+pub aligned_word : (bytes : List ℕ) (at len word : ℕ) → IsBytes bytes → at % 8 ≡ 0 → at + 64 ≤ len → len ≤ 8 * length bytes → word < 2 ^ 64 → word ≡ from_le_bytes w64 (take 8 (drop (at / 8) bytes)) → word ≡ number_of (take 64 (drop at (take len (bits_of bytes))))
+aligned_word bytes at len word fits even within long small e =
+    let part = take 8 (drop (at / 8) bytes) in
+    let size : length part ≡ 8 = omega (arith, length-take 8 (drop (at / 8) bytes), length-drop (at / 8) bytes) in
+    let num : word ≡ number_in part = e ∙ le_word8 part (IsBytes-take 8 (drop (at / 8) bytes) (IsBytes-drop (at / 8) bytes fits)) size in
+    let all : word / 2 ^ 0 % 2 ^ 64 ≡ word = ap (λ x. x % 2 ^ 64) (div-one word) ∙ mod-eq_of_lt small in
+    let shift : word / 2 ^ (at % 8) % 2 ^ 64 ≡ word / 2 ^ 0 % 2 ^ 64 = ap (λ s. word / 2 ^ s % 2 ^ 64) even in
+    sym all ∙ sym shift ∙ ap (λ x. x / 2 ^ (at % 8) % 2 ^ 64) num ∙ field_in bytes at 64 len 8 (omega arith) within
 
 -- one bit as a number
 pub digit-get : (bits : List Bool) (i : ℕ) → number_of bits / 2 ^ i % 2 ≡ digit (get_or bits i false)

@@ -1,4 +1,5 @@
 ghost use Rattle.std.specs.Prelude.{◌≡◌, ◌<◌, ◌≤◌, ◌+◌, ◌*◌, ◌%◌, ◌/◌, ◌^◌, false, length, take, drop, slice_index_or, count_ones, IfSome, IfNone};
+ghost use Rattle.std.specs.Int.{w64, from_le_bytes};
 ghost use Rattle.bit_store.specs.Bits.{number_of, bits_of, ones_of, IsOneAt, IsZeroAt};
 ghost use Rattle.bit_store.specs.Counts.{number_in, IsPlaceIn};
 
@@ -50,6 +51,70 @@ fn window(bytes: &[u8], start: usize) -> u128
         rest[0], rest[1], rest[2], rest[3], rest[4], rest[5], rest[6], rest[7], rest[8], rest[9],
         rest[10], rest[11], rest[12], rest[13], rest[14], rest[15],
     ])
+}
+
+// Eight bytes as a number, the first the least.
+fn word_at(bytes: &[u8], at: usize) -> u64
+    requires { at + 8 ≤ length bytes.now }
+    ensures { result ≡ from_le_bytes w64 (take 8 (drop at bytes.now)) }
+{
+    u64::from_le_bytes([
+        bytes[at],
+        bytes[at + 1],
+        bytes[at + 2],
+        bytes[at + 3],
+        bytes[at + 4],
+        bytes[at + 5],
+        bytes[at + 6],
+        bytes[at + 7],
+    ])
+}
+
+// From the start of a byte on, goes past words of 64 bits in which the k-th 1 doesn't lie: the place
+// behind them, and how many ones are left to go past there.
+fn past_ones(bytes: &[u8], len: u64, from: u64, k: u64) -> (u64, u64)
+    requires fits { len ≤ 8 * length bytes.now }
+    requires inside { from ≤ len }
+    ensures order { from ≤ result.0 }
+    ensures within { result.0 ≤ len }
+    ensures left { ones_of (take result.0 (take len (bits_of bytes.now))) + result.1 ≡ ones_of (take from (take len (bits_of bytes.now))) + k }
+{
+    let mut at = from;
+    let mut left = k;
+    if from % 8 == 0 {
+        while len - at >= 64 {
+            let here = u64::from(word_at(bytes, (at / 8) as usize).count_ones());
+            if here > left {
+                break;
+            }
+            left -= here;
+            at += 64;
+        }
+    }
+    (at, left)
+}
+
+// The same for the k-th 0.
+fn past_zeros(bytes: &[u8], len: u64, from: u64, k: u64) -> (u64, u64)
+    requires fits { len ≤ 8 * length bytes.now }
+    requires inside { from ≤ len }
+    ensures order { from ≤ result.0 }
+    ensures within { result.0 ≤ len }
+    ensures left { result.0 + ones_of (take from (take len (bits_of bytes.now))) + result.1 ≡ from + ones_of (take result.0 (take len (bits_of bytes.now))) + k }
+{
+    let mut at = from;
+    let mut left = k;
+    if from % 8 == 0 {
+        while len - at >= 64 {
+            let here = 64 - u64::from(word_at(bytes, (at / 8) as usize).count_ones());
+            if here > left {
+                break;
+            }
+            left -= here;
+            at += 64;
+        }
+    }
+    (at, left)
 }
 
 // The place of the k-th 1 of a number, by halves.
@@ -164,8 +229,7 @@ impl<'a> BitView<'a> {
         ensures found { IfSome result (λ p. (from ≤ p) × IsOneAt self.now p × (ones_of (take p self.now) ≡ ones_of (take from self.now) + k)) }
         ensures none { IfNone result (ones_of self.now ≤ ones_of (take from self.now) + k) }
     {
-        let mut left = k;
-        let mut at = from;
+        let (mut at, mut left) = past_ones(self.bytes, self.len, from, k);
         while at < self.len() {
             let width = (self.len() - at).min(64);
             let word = self.field(at, width as u32);
@@ -185,8 +249,7 @@ impl<'a> BitView<'a> {
         ensures found { IfSome result (λ p. (from ≤ p) × IsZeroAt self.now p × (p + ones_of (take from self.now) ≡ from + ones_of (take p self.now) + k)) }
         ensures none { IfNone result (length self.now + ones_of (take from self.now) ≤ from + ones_of self.now + k) }
     {
-        let mut left = k;
-        let mut at = from;
+        let (mut at, mut left) = past_zeros(self.bytes, self.len, from, k);
         while at < self.len() {
             let width = (self.len() - at).min(64);
             let word = self.field(at, width as u32);

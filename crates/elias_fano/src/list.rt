@@ -87,7 +87,7 @@ fn checked(bytes: &[u8]) -> Result<EfList<'_>, EfError>
 }
 
 impl<'a> EfList<'a> {
-    /// The list of a text, without a copy. Every byte is looked at once.
+    /// The list of a text, without a copy. Every item is looked at once.
     pub fn check(bytes: &'a [u8]) -> Result<EfList<'a>, EfError>
         requires { length bytes.now < 2 ^ 60 }
         // What is read is spelled so.
@@ -108,6 +108,7 @@ impl<'a> EfList<'a> {
         self.parts.count
     }
 
+    /// Goes through at most n / 10,000 + 2 words of a list of n items, all else by halving.
     pub fn get(&self, i: u64) -> u64
         requires { i < length self.now }
         ensures { result ≡ slice_index self.now i }
@@ -116,7 +117,8 @@ impl<'a> EfList<'a> {
         self.parts.item(i, one)
     }
 
-    /// The place and the value of the first item not below `at`.
+    /// The place and the value of the first item not below `at`. Goes through at most three times the
+    /// words of a `get`, all else by halving.
     pub fn seek(&self, at: u64) -> Option<(u64, u64)>
         ensures found { IfSome result (λ x. (x.0 < length self.now) × (x.1 ≡ slice_index self.now x.0) × (at ≤ x.1)) }
         ensures first { IfSome result (λ x. (k : ℕ) → k < x.0 → slice_index self.now k < at) }

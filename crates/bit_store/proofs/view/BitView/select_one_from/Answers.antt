@@ -1,9 +1,18 @@
 use Rattle.std.proofs.Common.{arith, ◌≤◌, ◌+◌, length}
+use Rattle.std.proofs.lemmas.List.{length-take}
+use Rattle.bit_store.specs.Bits.{bits_of}
+use Rattle.bit_store.proofs.Texts.{length-bits_of}
 use Rattle.bit_store.proofs.Views.{Placed, placed, ones_field}
 use Rattle.bit_store.proofs.view.BitView.select_one_from.Goals as goal
 
 pub loop-at-init : goal.loop-at-init
-loop-at-init c = record { begun = omega arith; within = omega arith; counted = omega arith }
+loop-at-init c =
+    let bytes = c.self.inside.bytes.now in
+    rw (← c.self.view_is) (record {
+      begun = c.past_ones-at.ensures.order;
+      within = omega (arith, c.past_ones-at.ensures.within, length-take c.self.inside.len (bits_of bytes), length-bits_of bytes, c.self.invariant);
+      counted = omega (arith, c.past_ones-at.ensures.left);
+    })
 
 found : (c : goal.After-from) → Placed c.args.self.now c.loop-at.at c.min-width.result c.place_in.result c.loop-at.left
 found c =

@@ -1,10 +1,19 @@
 use Rattle.std.proofs.Common.{arith, ◌≤◌, ◌+◌, length}
+use Rattle.std.proofs.lemmas.List.{length-take}
+use Rattle.bit_store.specs.Bits.{bits_of}
+use Rattle.bit_store.proofs.Texts.{length-bits_of}
 use Rattle.bit_store.proofs.Views.{ones_field}
 use Rattle.bit_store.proofs.Zeros.{PlacedZero, placed_zero, ones_in_part, turned_all}
 use Rattle.bit_store.proofs.view.BitView.select_zero_from.Goals as goal
 
 pub loop-at-init : goal.loop-at-init
-loop-at-init c = record { begun = omega arith; within = omega arith; counted = omega arith }
+loop-at-init c =
+    let bytes = c.self.inside.bytes.now in
+    rw (← c.self.view_is) (record {
+      begun = c.past_zeros-at.ensures.order;
+      within = omega (arith, c.past_zeros-at.ensures.within, length-take c.self.inside.len (bits_of bytes), length-bits_of bytes, c.self.invariant);
+      counted = omega (arith, c.past_zeros-at.ensures.left);
+    })
 
 pub loop-at-preserved : goal.loop-at-preserved
 loop-at-preserved c =
