@@ -1,13 +1,13 @@
 -- How many items have an upper part below a number.
-use Rattle.std.proofs.Common.{◌≡◌, ℕ, ◌+◌, ◌-◌, ◌*◌, ◌/◌, ◌^◌, ◌<◌, ◌≤◌, Bool, true, false, List, [], ◌∷◌, ◌++◌, length, take, drop, get_or, refl, sym, ap, ◌∙◌, arith, inl, inr}
+use Rattle.std.proofs.Common.{◌≡◌, ℕ, ◌+◌, ◌-◌, ◌/◌, ◌^◌, ◌<◌, ◌≤◌, Bool, true, false, List, [], ◌∷◌, ◌++◌, length, take, drop, get_or, refl, sym, ap, ◌∙◌, arith, inl, inr}
 use Rattle.std.proofs.Math.Pow.{shr_mono}
 use Rattle.std.proofs.lemmas.Bool.{cases_lt}
-use Rattle.std.proofs.lemmas.List.{length-take, length-drop, take_all, take_more, take-take, get_or-take}
+use Rattle.std.proofs.lemmas.List.{length-take, take_all, take_more, take-take, get_or-take}
 use Rattle.bit_store.specs.Bits.{ones_of, IsOneAt, IsZeroAt}
 use Rattle.bit_store.proofs.Numbers.{ones_of-le, ones_of-append}
 use Rattle.bit_store.proofs.Views.{ones_more}
 use Rattle.elias_fano.specs.declared.parts.Parts.{Parts}
-use Rattle.elias_fano.specs.Reading.{place_of_one, item_at, items_of, IsSound, IsListed}
+use Rattle.elias_fano.specs.Reading.{place_of_one, item_at, IsSound, IsListed}
 use Rattle.elias_fano.specs.Marks.{high_at, AreBelow}
 use Rattle.elias_fano.proofs.Places.{place-one, place-room, ones-past, item-parts, length-items_of, get_or-items_of}
 

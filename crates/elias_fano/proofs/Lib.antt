@@ -1,5 +1,6 @@
 mod Rows
 pub mod Lower
+pub mod Waiting
 pub mod Upper
 pub mod Places
 pub mod Bounds

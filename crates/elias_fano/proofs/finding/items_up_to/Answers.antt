@@ -1,4 +1,4 @@
-use Rattle.std.proofs.Common.{◌+◌, ◌<◌, length, take, arith}
+use Rattle.std.proofs.Common.{◌+◌, arith}
 use Rattle.std.proofs.lemmas.List.{length-take}
 use Rattle.elias_fano.proofs.Bounds.{start_inside, ones_at_start, zero_parts, near_zero}
 use Rattle.elias_fano.proofs.finding.items_up_to.Goals as goal

@@ -1,4 +1,4 @@
-use Rattle.std.proofs.Common.{◌≡◌, ◌≤◌, ◌+◌, ℕ, List, Bool, length, take, Option, Some, None, arith}
+use Rattle.std.proofs.Common.{◌≡◌, ◌≤◌, ◌+◌, ℕ, List, Bool, take, Option, Some, None, arith}
 use Rattle.std.specs.Prelude.{IfSome, IfNone}
 use Rattle.bit_store.specs.Bits.{ones_of, IsOneAt}
 use Rattle.bit_store.proofs.Views.{ones_of-nil}

@@ -1,4 +1,4 @@
-use Rattle.std.proofs.Common.{◌<◌, ◌≤◌, ◌-◌, ◌*◌}
+use Rattle.std.proofs.Common.{◌<◌, ◌≤◌, ◌-◌}
 use Rattle.std.specs.Prelude.{slice_index}
 use Rattle.elias_fano.proofs.marks.Marks.before_one.Given as goal
 

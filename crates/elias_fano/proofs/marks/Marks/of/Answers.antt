@@ -1,9 +1,9 @@
-use Rattle.std.proofs.Common.{◌≡◌, ◌+◌, ◌-◌, ◌*◌, ◌/◌, ◌∙◌, ℕ, length, take, replicate, sym, ap, refl, arith}
+use Rattle.std.proofs.Common.{◌≡◌, ◌+◌, ◌-◌, ◌*◌, ◌/◌, ◌∙◌, ℕ, take, replicate, sym, ap, refl, arith}
 use Rattle.std.proofs.lemmas.List.{length-take, length-set}
 use Rattle.bit_store.specs.Bits.{ones_of}
 use Rattle.bit_store.proofs.Numbers.{ones_of-le}
 use Rattle.bit_store.proofs.Views.{ones_of-nil}
-use Rattle.elias_fano.proofs.Marked.{first_mark, more_marks, place_on, places_inside}
+use Rattle.elias_fano.proofs.Marked.{first_mark, more_marks, place_on}
 use Rattle.elias_fano.proofs.marks.Marks.of.Goals as goal
 
 pub loop-used-init : goal.loop-used-init

@@ -1,4 +1,4 @@
-use Rattle.std.proofs.Common.{◌∙◌, ◌*◌, sym, arith}
+use Rattle.std.proofs.Common.{◌∙◌, sym, arith}
 use Rattle.elias_fano.proofs.Places.{place-is}
 use Rattle.elias_fano.proofs.Marked.{none_first}
 use Rattle.elias_fano.proofs.marks.Marks.one.Goals as goal
