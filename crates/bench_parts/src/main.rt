@@ -2,9 +2,11 @@
 //! many items, and prints a checksum.
 #![tactic(auto)]
 
+mod lists;
 mod words;
 
 use agg_outside::Memory;
+use lists::sum_of_lists;
 use std::env;
 use std::marker::Brand;
 use std::process::ExitCode;
@@ -26,6 +28,9 @@ fn sum_of_part<R: AllocGlobal + Env>(rt: &R) -> Result<Option<u64>, Memory> {
     };
     match part.as_str() {
         "words" => Ok(Some(sum_of_words::<Brand>(rt.alloc(), count, Blank::new(1))?)),
+        "lists" | "lists_encode" | "lists_get" | "lists_seek" => {
+            Ok(Some(sum_of_lists(rt.alloc(), part.as_str(), count)?))
+        }
         _ => Ok(None),
     }
 }
