@@ -2,9 +2,11 @@
 //! many items, and prints a checksum.
 #![tactic(auto)]
 
+mod ordered;
 mod words;
 
 use agg_outside::Memory;
+use ordered::sum_of_ordered;
 use std::env;
 use std::marker::Brand;
 use std::process::ExitCode;
@@ -26,6 +28,12 @@ fn sum_of_part<R: AllocGlobal + Env>(rt: &R) -> Result<Option<u64>, Memory> {
     };
     match part.as_str() {
         "words" => Ok(Some(sum_of_words::<Brand>(rt.alloc(), count, Blank::new(1))?)),
+        "ordered" => {
+            let Some(looks) = args.next().and_then(|word| word.parse::<u64>().ok()) else {
+                return Ok(None);
+            };
+            Ok(Some(sum_of_ordered::<Brand>(rt.alloc(), count, looks, Blank::new(1))?))
+        }
         _ => Ok(None),
     }
 }
