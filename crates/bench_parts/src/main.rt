@@ -3,10 +3,12 @@
 #![tactic(auto)]
 
 mod lists;
+mod ordered;
 mod words;
 
 use agg_outside::Memory;
 use lists::sum_of_lists;
+use ordered::sum_of_ordered;
 use std::env;
 use std::marker::Brand;
 use std::process::ExitCode;
@@ -30,6 +32,12 @@ fn sum_of_part<R: AllocGlobal + Env>(rt: &R) -> Result<Option<u64>, Memory> {
         "words" => Ok(Some(sum_of_words::<Brand>(rt.alloc(), count, Blank::new(1))?)),
         "lists" | "lists_encode" | "lists_get" | "lists_seek" => {
             Ok(Some(sum_of_lists(rt.alloc(), part.as_str(), count)?))
+        }
+        "ordered" => {
+            let Some(looks) = args.next().and_then(|word| word.parse::<u64>().ok()) else {
+                return Ok(None);
+            };
+            Ok(Some(sum_of_ordered::<Brand>(rt.alloc(), count, looks, Blank::new(1))?))
         }
         _ => Ok(None),
     }
