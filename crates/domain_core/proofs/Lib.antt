@@ -1,0 +1,4 @@
+pub mod Built
+pub mod Checked
+pub mod Held
+pub mod Words
