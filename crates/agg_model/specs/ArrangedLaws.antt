@@ -181,7 +181,7 @@ before-behind-by p q r false e h g =
     cc
 
 -- p is before what is not before q, if it is before q
-before-behind : (p q r : Place) → is_before p q ≡ true → is_before r q ≡ false → is_before p r ≡ true
+pub before-behind : (p q r : Place) → is_before p q ≡ true → is_before r q ≡ false → is_before p r ≡ true
 before-behind p q r h g = before-behind-by p q r (is_before p r) refl h g
 
 later-before : (c : Change) (o : Option Change) → IfSome o (λ d. is_before (place_of c) (place_of d) ≡ true) → option_or o (Some c) ≡ later c o

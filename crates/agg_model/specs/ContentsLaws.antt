@@ -20,8 +20,8 @@ use Rattle.agg_model.specs.Entity.{entity_number}
 use Rattle.agg_model.specs.Place.{place_of, place_cmp, is_before, is_of}
 use Rattle.agg_model.specs.Batch.{IsKey, IsValue, IsChange, HasValue}
 use Rattle.agg_model.specs.ChangeList.{value_at, last_change, value_of, value_of_act, is_of_before}
-use Rattle.agg_model.specs.Arranged.{arranged}
-use Rattle.agg_model.specs.ArrangedLaws.{IsInOrder, arranged-IsInOrder, arranged-IsPermutation, last_where-All}
+use Rattle.agg_model.specs.Arranged.{put_in, arranged_from, arranged}
+use Rattle.agg_model.specs.ArrangedLaws.{IsInOrder, put_in-IsInOrder, before-behind, arranged-IsInOrder, arranged-IsPermutation, last_where-All}
 use Rattle.agg_model.specs.GrownLaws.{value_at-later}
 use Rattle.agg_model.specs.Contents.{is_within, is_of_within, changes_over, goes_on, keys_of, word_of, pair_at, kv_contents, before_of, v_contents, times, ef_contents}
 use Rattle.agg_model.specs.Pairs.{IsBelow, KeysAscend, pair_keys, IsPair, ArePairs}
@@ -90,6 +90,53 @@ unfolding changes_over
 changes_over-keep P size cs e a b all =
     let p = is_within e (a * size) (b * size) in
     All-permutation P (filter p cs) (arranged (filter p cs)) (arranged-IsPermutation (filter p cs)) (All-filter p P cs all)
+
+-- ---- to sort what is within, or to take what is within of what is sorted
+
+put_in-first : (c : Change) (xs : List Change) → All (λ x. is_before (place_of c) (place_of x) ≡ true) xs → put_in c xs ≡ c ∷ xs
+put_in-first c [] before = refl
+put_in-first c (x ∷ xs) before =
+    ap (λ t. cond t (c ∷ x ∷ xs) (x ∷ put_in c xs)) (All-head (λ x. is_before (place_of c) (place_of x) ≡ true) x xs before)
+
+module _ (p : Change → Bool) where
+  behind-by : (c d : Change) (kept new : List Change) (t u : Bool) → is_before (place_of c) (place_of d) ≡ false → new ≡ cond u (put_in c kept) kept
+      → cond t (d ∷ new) new ≡ cond u (put_in c (cond t (d ∷ kept) kept)) (cond t (d ∷ kept) kept)
+  behind-by c d kept new true true later is =
+      ap (λ xs. d ∷ xs) is ∙ ap (λ t. cond t (c ∷ d ∷ kept) (d ∷ put_in c kept)) (sym later)
+  behind-by c d kept new true false later is = ap (λ xs. d ∷ xs) is
+  behind-by c d kept new false u later is = is
+
+  filter-put_in-by : (c d : Change) (ds : List Change) (t : Bool) → is_before (place_of c) (place_of d) ≡ t → IsInOrder (d ∷ ds) → filter p (put_in c ds) ≡ cond (p c) (put_in c (filter p ds)) (filter p ds)
+      → filter p (cond t (c ∷ d ∷ ds) (d ∷ put_in c ds)) ≡ cond (p c) (put_in c (filter p (d ∷ ds))) (filter p (d ∷ ds))
+  filter-put_in-by c d ds true before order rest =
+      let P = λ (x : Change). is_before (place_of c) (place_of x) ≡ true in
+      let all : All P (d ∷ ds) = All-cons P d ds before (λ i z below. before-behind _ _ _ before (order.0 i z below)) in
+      ap (λ xs. cond (p c) xs (filter p (d ∷ ds))) (sym (put_in-first c (filter p (d ∷ ds)) (All-filter p P (d ∷ ds) all)))
+  filter-put_in-by c d ds false later order rest =
+      behind-by c d (filter p ds) (filter p (put_in c ds)) (p d) (p c) later rest
+
+  filter-put_in : (c : Change) (ds : List Change) → IsInOrder ds → filter p (put_in c ds) ≡ cond (p c) (put_in c (filter p ds)) (filter p ds)
+  filter-put_in c [] order = refl
+  filter-put_in c (d ∷ ds) order = filter-put_in-by c d ds (is_before (place_of c) (place_of d)) refl order (filter-put_in c ds order.1)
+
+  from-by : (acc kept cs : List Change) (c : Change) (t : Bool) → acc ≡ cond t (put_in c kept) kept → arranged_from acc cs ≡ arranged_from kept (cond t (c ∷ cs) cs)
+  from-by acc kept cs c true is = ap (λ xs. arranged_from xs cs) is
+  from-by acc kept cs c false is = ap (λ xs. arranged_from xs cs) is
+
+  filter-arranged_from : (acc cs : List Change) → IsInOrder acc → filter p (arranged_from acc cs) ≡ arranged_from (filter p acc) (filter p cs)
+  filter-arranged_from acc [] order = refl
+  filter-arranged_from acc (c ∷ cs) order =
+      filter-arranged_from (put_in c acc) cs (put_in-IsInOrder c acc order)
+      ∙ from-by (filter p (put_in c acc)) (filter p acc) (filter p cs) c (p c) (filter-put_in c acc order)
+
+  pub filter-arranged : (cs : List Change) → filter p (arranged cs) ≡ arranged (filter p cs)
+  unfolding arranged
+  filter-arranged cs = filter-arranged_from [] cs tt
+
+-- the changes of steps are those within of all sorted changes
+pub changes_over-arranged : (size : ℕ) (cs : List Change) (e : Entity) (a b : ℕ) → changes_over size cs e a b ≡ filter (is_within e (a * size) (b * size)) (arranged cs)
+unfolding changes_over
+changes_over-arranged size cs e a b = sym (filter-arranged (is_within e (a * size) (b * size)) cs)
 
 -- ---- later changes leave files alone
 

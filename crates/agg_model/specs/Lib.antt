@@ -16,3 +16,4 @@ pub mod Spot
 pub mod Pairs
 pub mod Place
 pub mod PlaceOrder
+pub mod Worked

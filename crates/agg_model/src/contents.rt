@@ -1,8 +1,9 @@
 ghost use Rattle.std.specs.Prelude.{◌≡◌, ℕ, ◌*◌, ◌≤◌, List, ◌++◌, All};
+ghost use Rattle.std.specs.List.{filter};
 ghost use Rattle.agg_model.specs.Arranged.{arranged, last_before};
 ghost use Rattle.agg_model.specs.Batch.{IsChange};
 ghost use Rattle.agg_model.specs.ChangeList.{ChangeList, IsChangeList, value_at};
-ghost use Rattle.agg_model.specs.Contents.{changes_over, kv_contents, v_contents, ef_contents};
+ghost use Rattle.agg_model.specs.Contents.{is_within, changes_over, kv_contents, v_contents, ef_contents};
 ghost use Rattle.agg_model.specs.LastChanges.{step_pairs};
 ghost use Rattle.agg_model.specs.Pairs.{ArePairs, held_value, newest_word, only_from, step_files, value_over};
 ghost use Rattle.agg_model.specs.Place.{place};
@@ -50,7 +51,9 @@ pub fn contents_laws()
     ensures ef_stays { (size : ℕ) (cs ds : List Change) (e : Entity) (a b : ℕ) → All (λ d. b * size ≤ d.tx) ds → ef_contents size (cs ++ ds) e a b ≡ ef_contents size cs e a b }
     // Keys ascend, and lengths are within their limits.
     ensures pairs { (size : ℕ) (cs : List Change) (e : Entity) (a b : ℕ) → All IsChange cs → ArePairs (kv_contents size cs e a b) }
-    // The sorted changes of the steps alone give their pairs.
+    // The changes of steps are those within of all sorted changes.
+    ensures within { (size : ℕ) (cs : List Change) (e : Entity) (a b : ℕ) → changes_over size cs e a b ≡ filter (is_within e (a * size) (b * size)) (arranged cs) }
+    // They alone give the pairs of the steps.
     ensures sorted { (list : ChangeList) (e : Entity) (a b : ℕ) → IsChangeList list → a * list.size ≤ b * list.size →
         kv_contents list.size list.changes e a b ≡ step_pairs a (changes_over list.size list.changes e a b) }
 {}

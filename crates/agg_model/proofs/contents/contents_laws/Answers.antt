@@ -1,4 +1,4 @@
-use Rattle.agg_model.specs.ContentsLaws.{kv_contents-later, v_contents-later, ef_contents-later, kv_contents-ArePairs}
+use Rattle.agg_model.specs.ContentsLaws.{kv_contents-later, v_contents-later, ef_contents-later, kv_contents-ArePairs, changes_over-arranged}
 use Rattle.agg_model.specs.LastChangesLaws.{kv_contents-step_pairs}
 use Rattle.agg_model.proofs.contents.contents_laws.Goals as goal
 
@@ -16,3 +16,6 @@ returns-clause-pairs c = kv_contents-ArePairs
 
 pub returns-clause-sorted : goal.returns-clause-sorted
 returns-clause-sorted c = λ list e a b valid order. kv_contents-step_pairs list.size list.changes e a b order valid.ascend
+
+pub returns-clause-within : goal.returns-clause-within
+returns-clause-within c = changes_over-arranged
