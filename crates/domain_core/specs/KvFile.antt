@@ -1,5 +1,5 @@
 -- A `.kv` file as its readers see it, the words that it is made of, and its bytes.
-use Rattle.std.specs.Prelude.{◌≡◌, ℕ, ◌≤◌, ◌<◌, List, [], ◌∷◌, length, slice_index_or}
+use Rattle.std.specs.Prelude.{◌≡◌, ℕ, ◌≤◌, ◌<◌, List, [], ◌∷◌, length, map, slice_index_or}
 use Rattle.agg_model.specs.declared.entity.Entity.{Entity}
 use Rattle.agg_model.specs.declared.change.Change.{Change}
 use Rattle.agg_model.specs.declared.contents.Pair.{Pair}
@@ -18,6 +18,9 @@ pub record TaggedPairs : Type 0 where
 
 abbrev pub tagged_pairs : Tag → List Pair → TaggedPairs
 tagged_pairs tag pairs = record { tag = tag; pairs = pairs }
+
+abbrev pub pairs_of_files : List TaggedPairs → List (List Pair)
+pairs_of_files files = map (λ f. f.pairs) files
 
 -- a key, its value, the next key and so on
 abbrev pub words_of : List Pair → List (List ℕ)

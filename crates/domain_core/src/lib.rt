@@ -4,6 +4,7 @@
 mod build;
 mod check;
 mod kv_file;
+mod newest;
 mod parts;
 mod step;
 
@@ -11,6 +12,7 @@ pub use agg_model::{Pair, Pairs};
 pub use build::{build_kv, build_step, file_laws, kv_tag};
 pub use check::are_pairs;
 pub use kv_file::KvFile;
+pub use newest::newest_value;
 pub use step::step_pairs;
 
 #[cfg(test)]

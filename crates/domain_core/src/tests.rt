@@ -84,11 +84,38 @@ fn looks<L: Ledger>(rt: &impl Abort, file: &KvFile, blank: Blank)
     assert!(rt; value == [4].as_slice());
 }
 
+fn looks_back<L: Ledger>(rt: &impl Abort, files: &[KvFile], blank: Blank)
+    requires name { blank.name ≡ L.name }
+    requires parts { blank.parts ≡ L.parts }
+    requires some { 0 < L.parts }
+{
+    let mut steps = Steps::<L>::of(blank);
+    assert!(rt; newest_value(files, &[0xaa], &mut steps) == Some([2].as_slice()));
+    assert!(rt; newest_value(files, &[0xbb], &mut steps).is_none());
+    assert!(rt; newest_value(files, &[0xee], &mut steps) == Some([5].as_slice()));
+    assert!(rt; newest_value(files, &[0xff], &mut steps).is_none());
+}
+
 #[test]
 fn a_later_step_keeps_a_deleted_key(rt: HostRuntime) -> Result<(), Fail> {
     let changes = some_changes(rt.alloc())?;
     let file = build_step(rt.alloc(), Entity::Accounts, 4, 1, changes.as_slice())?;
     looks::<Brand>(&rt, &file, Blank::new(1));
+    Ok(())
+}
+
+#[test]
+fn the_newest_file_with_the_key_decides(rt: HostRuntime) -> Result<(), Fail> {
+    let alloc = rt.alloc();
+    let mut first = Vec::new(alloc);
+    first.push(put(alloc, 0, &[0xaa], &[9])?)?;
+    first.push(put(alloc, 1, &[0xbb], &[9])?)?;
+    first.push(put(alloc, 2, &[0xee], &[5])?)?;
+    let second = some_changes(alloc)?;
+    let mut files = Vec::new(alloc);
+    files.push(build_step(alloc, Entity::Accounts, 4, 0, first.as_slice())?)?;
+    files.push(build_step(alloc, Entity::Accounts, 4, 1, second.as_slice())?)?;
+    looks_back::<Brand>(&rt, files.as_slice(), Blank::new(1));
     Ok(())
 }
 
