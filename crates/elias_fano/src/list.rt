@@ -118,7 +118,7 @@ impl<'a> EfList<'a> {
     }
 
     /// The place and the value of the first item not below `at`. Goes through at most three times the
-    /// words of a `get`, all else by halving.
+    /// words of a `get` and ten more, all else by halving.
     pub fn seek(&self, at: u64) -> Option<(u64, u64)>
         ensures found { IfSome result (λ x. (x.0 < length self.now) × (x.1 ≡ slice_index self.now x.0) × (at ≤ x.1)) }
         ensures first { IfSome result (λ x. (k : ℕ) → k < x.0 → slice_index self.now k < at) }
