@@ -143,7 +143,7 @@ fn after_all(bytes: &[u8], words: &WordFile) -> Result<usize, usize>
 
 /// Where the bytes and the accessor of the word file differ first. The accessor is followed through the
 /// bytes, and never stands beside them. If they end with the right lowest level, the words are gone over
-/// once; else once for each level down to the difference.
+/// once; else once more for each level down to the difference.
 pub(crate) fn difference(bytes: &[u8], words: &WordFile) -> Option<usize>
     requires { IsPaired words.now.words }
     ensures { result ≡ first_difference bytes.now (spelling (key_offsets words.now.words)) }
