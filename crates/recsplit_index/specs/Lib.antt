@@ -1,0 +1,5 @@
+pub mod Hash
+pub mod Keys
+pub mod Nodes
+pub mod Spelling
+pub mod Index
