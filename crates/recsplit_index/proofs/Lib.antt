@@ -1,1 +1,4 @@
 pub mod Hashes
+pub mod FirstSeeds
+pub mod Leaves
+pub mod Placements

@@ -6,7 +6,7 @@ use Rattle.std.specs.Int.{div_ceil}
 use Rattle.recsplit_index.specs.declared.keys.HashedKey.{HashedKey}
 use Rattle.recsplit_index.specs.Hash.{scaled}
 use Rattle.recsplit_index.specs.Keys.{key_count, hashed_keys, by_key}
-use Rattle.recsplit_index.specs.Nodes.{Node, node}
+use Rattle.recsplit_index.specs.Nodes.{Node, node, offsets_of}
 use Rattle.recsplit_index.specs.Spelling.{Index}
 
 -- the least number of buckets of which each could have 100 keys
@@ -42,7 +42,7 @@ bits_of_nodes nodes = flat_map (λ n. n.bits) nodes
 
 -- form 1
 unfoldable pub split_index : ℕ → List Node → Index
-split_index salt nodes = record { form = 1; salt = salt; starts = starts_from 0 0 nodes; offsets = map (λ key. key.offset) (slots_of nodes); bits = bits_of_nodes nodes }
+split_index salt nodes = record { form = 1; salt = salt; starts = starts_from 0 0 nodes; offsets = offsets_of (slots_of nodes); bits = bits_of_nodes nodes }
 
 -- form 0
 unfoldable pub plain_index : List (List ℕ) → Index

@@ -1,7 +1,7 @@
 -- The nodes of a bucket: which seeds part its keys, how they are written, and which slot each key gets.
-use Rattle.std.specs.Prelude.{ℕ, zero, suc, ◌+◌, ◌*◌, Bool, true, false, not, ◌&&◌, ◌||◌, nat_lt, nat_le, ◌==◌, if◌then◌else◌, List, [], ◌∷◌, ◌++◌, length, map, Option, Some, None}
+use Rattle.std.specs.Prelude.{◌≡◌, ℕ, zero, suc, ◌+◌, ◌*◌, Bool, true, false, not, ◌&&◌, ◌||◌, nat_lt, nat_le, ◌==◌, if◌then◌else◌, List, [], ◌∷◌, ◌++◌, length, map, Option, Some, None}
 use Rattle.std.specs.Option.{option_map, option_and_then}
-use Rattle.std.specs.List.{filter, flat_map, range_with_len}
+use Rattle.std.specs.List.{filter, flat_map, count_by, range_with_len}
 use Rattle.std.specs.Int.{div_ceil}
 use Rattle.bit_store.specs.Rice.{rice_code}
 use Rattle.recsplit_index.specs.declared.keys.HashedKey.{HashedKey}
@@ -52,7 +52,7 @@ goes_right depth seed size key = not (goes_left depth seed size key)
 
 -- a seed of a split: exactly so many go left
 unfoldable pub is_split_seed : ℕ → List HashedKey → ℕ → Bool
-is_split_seed depth keys seed = length (filter (goes_left depth seed (length keys)) keys) == left_of (length keys)
+is_split_seed depth keys seed = count_by (goes_left depth seed (length keys)) keys == left_of (length keys)
 
 -- the parameter of a node's code, by the node's size
 unfoldable pub parameter : ℕ → ℕ
@@ -88,3 +88,11 @@ node (suc splits) tries depth keys =
             option_and_then (λ one. option_map (joined (length keys) seed one) (node splits tries (depth + 1) (filter (goes_right depth seed (length keys)) keys)))
             (node splits tries (depth + 1) (filter (goes_left depth seed (length keys)) keys)))
         (first_below (is_split_seed depth keys) tries)
+
+abbrev pub offsets_of : List HashedKey → List ℕ
+offsets_of keys = map (λ key. key.offset) keys
+
+-- the node is put behind bits and offsets where there is one
+abbrev pub PutsNode : Bool → Option Node → List Bool → List ℕ → List Bool → List ℕ → Type 0
+PutsNode placed None bits offsets new_bits new_offsets = placed ≡ false
+PutsNode placed (Some n) bits offsets new_bits new_offsets = (placed ≡ true) × (new_bits ≡ bits ++ n.bits) × (new_offsets ≡ offsets ++ offsets_of n.slots)

@@ -3,5 +3,7 @@
 
 mod hash;
 mod keys;
+mod nodes;
+mod seeds;
 
 pub use hash::key_hash;
