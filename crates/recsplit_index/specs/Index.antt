@@ -4,6 +4,7 @@ use Rattle.std.specs.Option.{option_map, option_and_then}
 use Rattle.std.specs.List.{filter, flat_map}
 use Rattle.std.specs.Int.{div_ceil}
 use Rattle.recsplit_index.specs.declared.keys.HashedKey.{HashedKey}
+use Rattle.recsplit_index.specs.declared.buckets.Built.{Built}
 use Rattle.recsplit_index.specs.Hash.{scaled}
 use Rattle.recsplit_index.specs.Keys.{key_count, hashed_keys, by_key}
 use Rattle.recsplit_index.specs.Nodes.{Node, node, offsets_of}
@@ -65,3 +66,15 @@ index_of tries words = index_from tries words 8 0
 -- the accessor of the words under some limit
 abbrev pub IsIndexOf : List (List ℕ) → Index → Type 0
 IsIndexOf words x = (tries : ℕ) × (tries ≤ 2 ^ 16) × (x ≡ index_of tries words)
+
+-- what is built holds these nodes
+pub record Holds (b : Built) (nodes : List Node) : Type 0 where
+  pub starts_are : b.starts.items ≡ starts_from 0 0 nodes
+  pub offsets_are : b.parts.offsets.items ≡ offsets_of (slots_of nodes)
+  pub codes_are : b.parts.codes ≡ bits_of_nodes nodes
+
+abbrev pub HoldsAll : Option Built → Option (List Node) → Type 0
+HoldsAll None None = Unit {0}
+HoldsAll (Some b) (Some nodes) = Holds b nodes
+HoldsAll None (Some nodes) = ⊥
+HoldsAll (Some b) None = ⊥

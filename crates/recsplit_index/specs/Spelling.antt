@@ -1,7 +1,7 @@
 -- What a hash accessor holds, and how it is spelled.
 use Rattle.std.specs.Prelude.{◌≡◌, ℕ, zero, suc, ◌+◌, ◌*◌, ◌^◌, ◌<◌, Bool, List, [], ◌∷◌, ◌++◌, length, take, drop}
 use Rattle.std.specs.List.{flat_map, AllByRecursion}
-use Rattle.std.specs.Int.{w16, w32, w64, to_be_bytes, from_be_bytes}
+use Rattle.std.specs.Int.{w32, w64, to_be_bytes, from_be_bytes}
 use Rattle.bit_store.specs.Bits.{bits_of, text_of}
 
 -- form 1 has a salt; for each bucket, and once for the end, the number of keys and of bits before it;
@@ -17,13 +17,13 @@ pub record Index : Type 0 where
 unfoldable pub number_bytes : List ℕ → List ℕ
 number_bytes numbers = flat_map (to_be_bytes w64) numbers
 
--- `AGH1`, the form, the salt, two bytes 0, the number of keys, the starts, the offsets and the bits
-unfoldable pub spelling : Index → List ℕ
-spelling x =
-    to_be_bytes w32 0x4147_4831 ++ x.form ∷ x.salt ∷ [] ++ to_be_bytes w16 0 ++ to_be_bytes w64 (length x.offsets)
-    ++ number_bytes x.starts
-    ++ number_bytes x.offsets
-    ++ text_of x.bits
+-- `AGH1`, the form, the salt, two bytes 0, the number of keys, the starts, the offsets and the text of the bits
+unfoldable pub laid_out : ℕ → ℕ → List ℕ → List ℕ → List ℕ → List ℕ
+laid_out form salt starts offsets text =
+    to_be_bytes w32 0x4147_4831 ++ form ∷ salt ∷ 0 ∷ 0 ∷ [] ++ to_be_bytes w64 (length offsets) ++ number_bytes starts ++ number_bytes offsets ++ text
+
+abbrev pub spelling : Index → List ℕ
+spelling x = laid_out x.form x.salt x.starts x.offsets (text_of x.bits)
 
 -- the numbers at the front of bytes
 unfoldable pub numbers_at : ℕ → List ℕ → List ℕ

@@ -1,9 +1,13 @@
 //! Hash accessors of word files: the offset of a key's word by one look, after RecSplit.
 #![tactic(auto)]
 
+mod buckets;
+mod file;
 mod hash;
 mod keys;
 mod nodes;
 mod seeds;
+mod spell;
 
+pub use file::HashIndex;
 pub use hash::key_hash;
