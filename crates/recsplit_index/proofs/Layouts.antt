@@ -128,3 +128,12 @@ held form salt starts offsets text bits bytes one other text_is back is =
 -- the same of what is seen
 pub held_as : {form salt starts count bits : ℕ} {bytes : List ℕ} (x : Index) → IsHeld form salt starts count bits bytes → index_in form salt starts count bits bytes ≡ x → IsSpelled x form salt starts count bits bytes
 held_as {form} {salt} {starts} {count} {bits} {bytes} x h is = subst (λ (y : Index). IsSpelled y form salt starts count bits bytes) is h
+
+-- the same where the number of bits is a variable
+pub seen_by : (form salt : ℕ) (starts offsets text : List ℕ) (bits : List Bool) (b : ℕ) (bytes : List ℕ) → AreNumbers starts → AreNumbers offsets → b ≡ length bits → take (length bits) (bits_of text) ≡ bits → bytes ≡ laid_out form salt starts offsets text
+    → index_in form salt (length starts) (length offsets) b bytes ≡ index_with form salt starts offsets bits
+seen_by form salt starts offsets text bits b bytes one other b-is back is = ap (λ (n : ℕ). index_in form salt (length starts) (length offsets) n bytes) b-is ∙ seen form salt starts offsets text bits bytes one other back is
+
+pub held_by : (form salt : ℕ) (starts offsets text : List ℕ) (bits : List Bool) (b : ℕ) (bytes : List ℕ) → AreNumbers starts → AreNumbers offsets → b ≡ length bits → text ≡ text_of bits → take (length bits) (bits_of text) ≡ bits → bytes ≡ laid_out form salt starts offsets text
+    → IsHeld form salt (length starts) (length offsets) b bytes
+held_by form salt starts offsets text bits b bytes one other b-is text_is back is = subst (λ (n : ℕ). IsHeld form salt (length starts) (length offsets) n bytes) (sym b-is) (held form salt starts offsets text bits bytes one other text_is back is)

@@ -6,3 +6,4 @@ pub mod Gathers
 pub mod KeyLists
 pub mod Buildings
 pub mod Layouts
+pub mod Salts

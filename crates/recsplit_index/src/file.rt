@@ -1,4 +1,4 @@
-ghost use Rattle.std.specs.Prelude.{◌≡◌, ℕ, ◌+◌, ◌*◌, ◌<◌, ◌≤◌, ◌^◌, [], length, IfOk, OnOk, IfErr, Err, Some};
+ghost use Rattle.std.specs.Prelude.{◌≡◌, ℕ, ◌+◌, ◌*◌, ◌<◌, ◌≤◌, ◌^◌, [], length, map, IfOk, OnOk, IfErr, Err, Some};
 ghost use Rattle.recsplit_index.specs.Keys.{IsPaired, KeysDiffer, key_offsets};
 ghost use Rattle.recsplit_index.specs.Spelling.{spelling};
 ghost use Rattle.recsplit_index.specs.Index.{plain_index, index_of};
@@ -12,6 +12,7 @@ use crate::spell::lay_out;
 use agg_outside::{Bytes, Memory, Steps};
 use bit_store::RiceWriter;
 use std::alloc::Global;
+use std::collections::BTreeMap;
 use std::marker::{Brand, Model};
 use std::sync::ledger::{Blank, Ledger};
 use word_file::{AccessError, WordFile, first_difference};
@@ -60,6 +61,12 @@ fn hold(
     })
 }
 
+fn offsets_in(alloc: Global, tree: &BTreeMap<Bytes, u64>) -> Result<Vec<u64>, Memory>
+    ensures { IfOk result (λ v. v.items ≡ map (λ entry. entry.1) tree.now.entries) }
+{
+    Ok(tree.values().copied().collect(alloc)?)
+}
+
 /// The accessor with the offsets in the order of their keys.
 fn plain<L: Ledger>(
     alloc: Global,
@@ -71,10 +78,7 @@ fn plain<L: Ledger>(
     ensures { IfOk result (λ x. x ≡ plain_index words.now.words) }
 {
     let tree = by_key(alloc, words, offsets, steps)?;
-    let mut sorted = Vec::new(alloc);
-    for offset in tree.values() {
-        sorted.push(*offset)?;
-    }
+    let sorted = offsets_in(alloc, &tree)?;
     hold(alloc, 0, 0, &[], sorted.as_slice(), RiceWriter::new(alloc))
 }
 
