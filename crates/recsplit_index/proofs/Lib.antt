@@ -7,3 +7,5 @@ pub mod KeyLists
 pub mod Buildings
 pub mod Layouts
 pub mod Salts
+pub mod Every
+pub mod Positions

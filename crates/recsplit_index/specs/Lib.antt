@@ -3,3 +3,4 @@ pub mod Keys
 pub mod Nodes
 pub mod Spelling
 pub mod Index
+pub mod Walks
