@@ -9,3 +9,5 @@ pub mod Layouts
 pub mod Salts
 pub mod Every
 pub mod Positions
+pub mod Shapes
+pub mod Walkings

@@ -42,7 +42,7 @@ place_all place keys front out k ge le is =
 puts_same : (placed : Bool) (n m : Option Node) (bits : List Bool) (offsets : List ℕ) (new_bits : List Bool) (new_offsets : List ℕ) → n ≡ m → PutsNode placed m bits offsets new_bits new_offsets → PutsNode placed n bits offsets new_bits new_offsets
 puts_same placed n m bits offsets new_bits new_offsets is puts = subst (λ (x : Option Node). PutsNode placed x bits offsets new_bits new_offsets) (sym is) puts
 
-leaf_few : (tries depth : ℕ) (keys : List HashedKey) → length keys < 2 → leaf tries depth keys ≡ Some (record { bits = []; slots = keys })
+pub leaf_few : (tries depth : ℕ) (keys : List HashedKey) → length keys < 2 → leaf tries depth keys ≡ Some (record { bits = []; slots = keys })
 unfolding leaf
 leaf_few tries depth keys few = rw (lt-ltb (length keys) 2 few) refl
 

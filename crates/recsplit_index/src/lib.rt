@@ -8,6 +8,7 @@ mod keys;
 mod nodes;
 mod seeds;
 mod spell;
+mod walk;
 
 pub use file::HashIndex;
 pub use hash::key_hash;
