@@ -11,3 +11,6 @@ pub mod Every
 pub mod Positions
 pub mod Shapes
 pub mod Walkings
+pub mod Sortings
+pub mod Finds
+pub mod Plains

@@ -1,5 +1,5 @@
 -- The first salt that works.
-use Rattle.std.proofs.Common.{◌≡◌, ℕ, zero, suc, ◌+◌, ◌-◌, ◌<◌, ◌≤◌, List, Option, Some, None, refl, sym, ap, subst, ◌∙◌, arith}
+use Rattle.std.proofs.Common.{◌≡◌, ℕ, zero, suc, ◌+◌, ◌-◌, ◌<◌, ◌≤◌, List, Option, Some, None, refl, sym, ap, subst, ◌∙◌, arith, inl, inr, ◌⊎◌}
 use Rattle.recsplit_index.specs.declared.keys.HashedKey.{HashedKey}
 use Rattle.recsplit_index.specs.declared.buckets.Built.{Built}
 use Rattle.recsplit_index.specs.Keys.{hashed_keys}
@@ -51,3 +51,24 @@ unfolding index_of index_from
 salt_none tries words salt ge so_far =
     let none : 8 - salt ≡ 0 = omega arith in
     sym (ap (λ (n : ℕ). index_from tries words n salt) none) ∙ so_far
+
+-- ---- which form it is
+
+pub record IsSplitOf (tries : ℕ) (words : List (List ℕ)) (x : Index) : Type 0 where
+  pub salt : ℕ
+  pub nodes : List Node
+  pub nodes_are : nodes_of tries (hashed_keys salt words) ≡ Some nodes
+  pub split_is : x ≡ split_index salt nodes
+
+form_by : (tries : ℕ) (words : List (List ℕ)) (salt : ℕ) (o : Option (List Node)) (other : Index) → nodes_of tries (hashed_keys salt words) ≡ o → (IsSplitOf tries words other ⊎ (other ≡ plain_index words)) → IsSplitOf tries words (or_else salt o other) ⊎ (or_else salt o other ≡ plain_index words)
+form_by tries words salt None other is rest = rest
+form_by tries words salt (Some nodes) other is rest = inl (record { salt = salt; nodes = nodes; nodes_are = is; split_is = refl })
+
+form_from : (tries : ℕ) (words : List (List ℕ)) (more salt : ℕ) → IsSplitOf tries words (index_from tries words more salt) ⊎ (index_from tries words more salt ≡ plain_index words)
+unfolding index_from
+form_from tries words zero salt = inr refl
+form_from tries words (suc more) salt = form_by tries words salt (nodes_of tries (hashed_keys salt words)) (index_from tries words more (salt + 1)) refl (form_from tries words more (salt + 1))
+
+pub form_of : (tries : ℕ) (words : List (List ℕ)) → IsSplitOf tries words (index_of tries words) ⊎ (index_of tries words ≡ plain_index words)
+unfolding index_of
+form_of tries words = form_from tries words 8 0

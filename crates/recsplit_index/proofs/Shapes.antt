@@ -29,11 +29,11 @@ unfolding first_from
 found_from works zero x s found = absurd cc
 found_from works (suc more) x s found = found_by works more x s (works x) refl (found_from works more (x + 1) s) found
 
-map_some : {A B : Type 0} (f : A → B) (o : Option A) (y : B) → option_map f o ≡ Some y → (x : A) × (o ≡ Some x) × (f x ≡ y)
+pub map_some : {A B : Type 0} (f : A → B) (o : Option A) (y : B) → option_map f o ≡ Some y → (x : A) × (o ≡ Some x) × (f x ≡ y)
 map_some f None y is = absurd cc
 map_some f (Some x) y is = (x, refl, some_is (f x) y is)
 
-then_some : {A B : Type 0} (f : A → Option B) (o : Option A) (y : B) → option_and_then f o ≡ Some y → (x : A) × (o ≡ Some x) × (f x ≡ Some y)
+pub then_some : {A B : Type 0} (f : A → Option B) (o : Option A) (y : B) → option_and_then f o ≡ Some y → (x : A) × (o ≡ Some x) × (f x ≡ Some y)
 then_some f None y is = absurd cc
 then_some f (Some x) y is = (x, refl, is)
 

@@ -268,7 +268,7 @@ walk_right old new next depth size left right r seed place hash result slot many
 pub slot_below : (old : Reading) (depth size hash : ℕ) (slot : ℕ) → Leads old depth size hash (Some slot) → HasNode old.bits old.at depth size → slot < size
 slot_below old depth size hash slot leads h = let found : IsSlotOf hash slot h.keys h.built.slots = leads h.keys h.built h.size_is h.there in omega (arith, found.within, h.size_is)
 
-none_leads : {A : Type 0} (P : A → Type 0) (o : Option A) → o ≡ None → IsSomeAnd o P → ⊥
+pub none_leads : {A : Type 0} (P : A → Type 0) (o : Option A) → o ≡ None → IsSomeAnd o P → ⊥
 none_leads P None is p = p
 none_leads P (Some x) is p = absurd cc
 

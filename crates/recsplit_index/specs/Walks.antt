@@ -4,8 +4,9 @@ use Rattle.std.specs.List.{AllByRecursion}
 use Rattle.bit_store.specs.Rice.{StandsAt}
 use Rattle.recsplit_index.specs.declared.keys.HashedKey.{HashedKey}
 use Rattle.recsplit_index.specs.Nodes.{Node, node}
-use Rattle.recsplit_index.specs.Spelling.{IsSpelled}
-use Rattle.recsplit_index.specs.Index.{nodes_of, split_index}
+use Rattle.recsplit_index.specs.Spelling.{spelling, AreNumbers, IsSpelled}
+use Rattle.recsplit_index.specs.Keys.{by_key}
+use Rattle.recsplit_index.specs.Index.{nodes_of, split_index, plain_index}
 
 -- the bits have the node of these keys at a place
 pub record IsNodeAt (bits : List Bool) (at depth : ℕ) (keys : List HashedKey) (n : Node) : Type 0 where
@@ -28,13 +29,20 @@ pub record IsSlotOf (hash slot : ℕ) (keys slots : List HashedKey) : Type 0 whe
   pub within : slot < length keys
   pub only : AllByRecursion (λ key. key.hash ≡ hash → slice_get slots slot ≡ Some key) keys
 
--- the bytes are form 1 over these keys
-pub record IsSplitOver (keys : List HashedKey) (salt starts count bits : ℕ) (bytes : List ℕ) : Type 0 where
+-- the bytes are form 1 over these keys, with so many starts, offsets and bits
+pub record IsSplitOver (keys : List HashedKey) (starts count bits : ℕ) (bytes : List ℕ) : Type 0 where
   pub tries : ℕ
   pub few : tries ≤ 2 ^ 16
   pub nodes : List Node
   pub nodes_are : nodes_of tries keys ≡ Some nodes
+  pub salt : ℕ
   pub spelled : IsSpelled (split_index salt nodes) 1 salt starts count bits bytes
+
+-- the bytes are form 0 over these words
+pub record IsPlainOver (words : List (List ℕ)) (count : ℕ) (bytes : List ℕ) : Type 0 where
+  pub counted : count ≡ length (by_key words)
+  pub fit : AreNumbers (plain_index words).offsets
+  pub spelled : bytes ≡ spelling (plain_index words)
 
 -- a key stands at this offset, and a key of this hash is that one
 pub record IsOnly (hash offset : ℕ) (keys : List HashedKey) : Type 0 where

@@ -1,11 +1,13 @@
-ghost use Rattle.std.specs.Prelude.{◌≡◌, ℕ, ◌+◌, ◌*◌, ◌<◌, ◌≤◌, ◌^◌, [], length, map, IfOk, OnOk, IfErr, Err, Some};
-ghost use Rattle.recsplit_index.specs.Keys.{IsPaired, KeysDiffer, key_offsets};
+ghost use Rattle.std.specs.Prelude.{◌≡◌, ℕ, ◌+◌, ◌*◌, ◌<◌, ◌≤◌, ◌^◌, [], length, map, IfOk, OnOk, IfErr, IfSome, IfNone, Err, Some};
+ghost use Rattle.recsplit_index.specs.Keys.{IsPaired, KeysDiffer, key_count, key_offsets, IsKeyAt, IsNoKey};
 ghost use Rattle.recsplit_index.specs.Spelling.{spelling};
-ghost use Rattle.recsplit_index.specs.Index.{plain_index, index_of};
+ghost use Rattle.recsplit_index.specs.Index.{plain_index, index_of, IsIndexOf};
 ghost use Rattle.word_file.specs.Difference.{first_difference};
 ghost use Rattle.word_file.specs.declared.access.AccessError.TheVariants.{Differs, Memory as NoMemory};
 
 use crate::buckets::{Built, nodes_of};
+use crate::find::{find_sorted, is_key, offset_of};
+use crate::hash::key_hash;
 use crate::keys::{by_key, hashed_keys, offsets_of};
 use crate::nodes::Parts;
 use crate::spell::lay_out;
@@ -163,5 +165,31 @@ impl HashIndex {
         ensures { result.now ≡ spelling self.now }
     {
         self.bytes.as_slice()
+    }
+    /// The offset of this key's word, and `None` where it is no key of the file. The key is compared with
+    /// the word to which its hash leads, or with the words of a search in form 0.
+    pub fn find<L: Ledger>(
+        &self,
+        words: &WordFile,
+        key: &[u8],
+        steps: &mut Steps<L>,
+    ) -> Option<u64>
+        requires { IsIndexOf words.now.words self.now }
+        ensures found { IfSome result (λ offset. IsKeyAt words.now.words key.now offset) }
+        ensures none { IfNone result (IsNoKey words.now.words key.now) }
+        ensures split_steps { self.now.form ≡ 1 → steps.new ≤ steps.old + 1 }
+        ensures plain_steps { (digits : ℕ) → key_count words.now.words < 2 ^ digits → steps.new ≤ steps.old + (digits + 1) }
+    {
+        let bytes = self.bytes.as_slice();
+        if self.form == 0 {
+            return find_sorted(bytes, self.count, words, key, steps);
+        }
+        let hash = key_hash(u64::from(self.salt), key);
+        let offset = offset_of(bytes, self.starts, self.count, self.bits, hash)?;
+        if is_key(words, offset, key, steps) {
+            Some(offset)
+        } else {
+            None
+        }
     }
 }

@@ -3,6 +3,7 @@
 
 mod buckets;
 mod file;
+mod find;
 mod hash;
 mod keys;
 mod nodes;

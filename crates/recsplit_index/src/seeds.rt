@@ -7,7 +7,6 @@ use crate::keys::HashedKey;
 /// How many keys of a node go left at a split.
 #[tactic(auto, unfolding(crate::specs::Nodes::left_of))]
 pub(crate) fn left_of(size: u64) -> u64
-    requires { size < 2 ^ 63 }
     ensures { result ≡ left_of size }
 {
     8 * size.div_ceil(8).div_ceil(2)
@@ -15,7 +14,6 @@ pub(crate) fn left_of(size: u64) -> u64
 
 /// Whether a key goes left at a split under this seed.
 pub(crate) fn goes_left(depth: u64, seed: u32, size: u64, key: &HashedKey) -> bool
-    requires { size < 2 ^ 63 }
     ensures { result ≡ goes_left depth seed size key.now }
 {
     position(depth, seed, size, key.hash) < left_of(size)

@@ -10,8 +10,7 @@ use bit_store::RiceReader;
 
 /// Goes behind the codes of a node of this size.
 fn skip(reader: &mut RiceReader<'_>, size: u64)
-    requires small { size < 2 ^ 63 }
-    requires there { (depth : ℕ) × HasNode reader.old.bits reader.old.at depth size }
+    requires { (depth : ℕ) × HasNode reader.old.bits reader.old.at depth size }
     ensures { (depth : ℕ) (keys : List HashedKey) (n : Node) → size ≡ length keys → IsNodeAt reader.old.bits reader.old.at depth keys n → reader.new ≡ record reader.old { at = reader.old.at + length n.bits } }
 {
     if size < 2 {
@@ -32,7 +31,6 @@ pub(crate) fn walk(
     size: u64,
     hash: u64,
 ) -> Option<u64>
-    requires small { size < 2 ^ 63 }
     requires some { 0 < size }
     requires deep { depth + size < 2 ^ 64 }
     requires there { HasNode reader.old.bits reader.old.at depth size }

@@ -25,18 +25,17 @@ pub walk-requires : goal.walk-requires
 walk-requires t c =
     let some = left_some c.args.size c.if-size-le8.false in
     (omega (arith, some.1, c.left_of-left.ensures, c.decreases),
-    (omega (arith, some.1, c.left_of-left.ensures, c.requires.small),
-      (omega (arith, some.0, c.left_of-left.ensures),
+    (omega (arith, some.0, c.left_of-left.ensures),
         (omega (arith, some.1, c.left_of-left.ensures, c.requires.deep),
-          left_there c.args.reader.now c.next.new.self c.args.depth c.args.size c.left_of-left.result c.parameter.result c.next.result c.if-size-le8.false c.parameter.ensures.value c.left_of-left.ensures (c.next.ensures.only, c.next.ensures.moves) c.requires.there))))
+          left_there c.args.reader.now c.next.new.self c.args.depth c.args.size c.left_of-left.result c.parameter.result c.next.result c.if-size-le8.false c.parameter.ensures.value c.left_of-left.ensures (c.next.ensures.only, c.next.ensures.moves) c.requires.there)))
 
 pub returns-then-place-left : goal.returns-then-place-left
 returns-then-place-left t c =
     walk_left c.args.reader.now c.next.new.self c.args.depth c.args.size c.left_of-left.result c.parameter.result c.in_ok-seed.field-0 c.position-place.result c.args.hash c.next.result c.walk.result c.if-size-le8.false c.parameter.ensures.value c.left_of-left.ensures
     c.if-place-left.true (c.next.ensures.only, c.next.ensures.moves) c.in_ok-seed.was c.position-place.ensures.value c.walk.ensures
 
-pub skip-requires-clause-there : goal.skip-requires-clause-there
-skip-requires-clause-there t c =
+pub skip-requires : goal.skip-requires
+skip-requires t c =
     (c.args.depth + 1,
     left_there c.args.reader.now c.next.new.self c.args.depth c.args.size c.left_of-left.result c.parameter.result c.next.result c.if-size-le8.false c.parameter.ensures.value c.left_of-left.ensures (c.next.ensures.only, c.next.ensures.moves) c.requires.there)
 
@@ -44,11 +43,10 @@ pub walk-requires-2 : goal.walk-requires-2
 walk-requires-2 t c =
     let some = left_some c.args.size c.if-size-le8.false in
     (omega (arith, some.0, c.left_of-left.ensures, c.decreases),
-    (omega (arith, some.0, c.left_of-left.ensures, c.requires.small),
-      (omega (arith, some.1, c.left_of-left.ensures),
+    (omega (arith, some.1, c.left_of-left.ensures),
         (omega (arith, some.0, some.1, c.left_of-left.ensures, c.requires.deep),
           right_there c.args.reader.now c.next.new.self c.skip.new.reader c.args.depth c.args.size c.left_of-left.result (c.args.size - c.left_of-left.result) c.parameter.result c.next.result c.if-size-le8.false c.parameter.ensures.value c.left_of-left.ensures refl
-          (c.next.ensures.only, c.next.ensures.moves) c.skip.ensures c.requires.there))))
+          (c.next.ensures.only, c.next.ensures.moves) c.skip.ensures c.requires.there)))
 
 pub returns-in_err-slot : goal.returns-in_err-slot
 returns-in_err-slot t c =
@@ -66,7 +64,7 @@ overflow_add-result t c =
     (right_there c.args.reader.now c.next.new.self c.skip.new.reader c.args.depth c.args.size c.left_of-left.result right c.parameter.result c.next.result c.if-size-le8.false c.parameter.ensures.value c.left_of-left.ensures refl
       (c.next.ensures.only, c.next.ensures.moves) c.skip.ensures c.requires.there)
     in
-    omega (arith, below, c.requires.small, (left_some c.args.size c.if-size-le8.false).1, c.left_of-left.ensures)
+    omega (arith, below, c.ranges.size, (left_some c.args.size c.if-size-le8.false).1, c.left_of-left.ensures)
 
 pub returns : goal.returns
 returns t c =
