@@ -2,9 +2,11 @@
 //! many items, and prints a checksum.
 #![tactic(auto)]
 
+mod hashed;
 mod words;
 
 use agg_outside::Memory;
+use hashed::sum_of_keys;
 use std::env;
 use std::marker::Brand;
 use std::process::ExitCode;
@@ -26,6 +28,10 @@ fn sum_of_part<R: AllocGlobal + Env>(rt: &R) -> Result<Option<u64>, Memory> {
     };
     match part.as_str() {
         "words" => Ok(Some(sum_of_words::<Brand>(rt.alloc(), count, Blank::new(1))?)),
+        "pairs" | "hashed" | "found" => {
+            let part = part.as_str();
+            Ok(Some(sum_of_keys::<Brand>(rt.alloc(), part, count, Blank::new(1))?))
+        }
         _ => Ok(None),
     }
 }

@@ -58,10 +58,10 @@ set_in_range : (F G : ℕ → List HashedKey) (n b : ℕ) (x : List HashedKey) �
 set_in_range F G n b x lt here others =
     fill_by_all G (set (map F (range_with_len 0 n)) b x) n [] (length-set (map F (range_with_len 0 n)) b x ∙ length-map-range_with_len F 0 n)
     (λ c less.
-        elim (eqb_tells c b) [
-          | inl same ↦ get_or-set_at (map F (range_with_len 0 n)) b c x [] same.1 (omega (arith, length-map-range_with_len F 0 n)) ∙ here ∙ ap G (sym same.1)
-          | inr other ↦ get_or-set_other (map F (range_with_len 0 n)) b c x [] other.1 ∙ get_or-map-range_with_len F 0 n c c [] less (zero-add c) ∙ others c other.1
-        ])
+    elim (eqb_tells c b) [
+      | inl same ↦ get_or-set_at (map F (range_with_len 0 n)) b c x [] same.1 (omega (arith, length-map-range_with_len F 0 n)) ∙ here ∙ ap G (sym same.1)
+      | inr other ↦ get_or-set_other (map F (range_with_len 0 n)) b c x [] other.1 ∙ get_or-map-range_with_len F 0 n c c [] less (zero-add c) ∙ others c other.1
+    ])
 
 pub grouped_none : (buckets : ℕ) (groups : List (Vec HashedKey Global)) → groups ≡ [] → lists_of groups ≡ map (bucket_keys buckets []) (range_with_len 0 0)
 grouped_none buckets groups is = ap lists_of is

@@ -86,7 +86,7 @@ pub read_number : (form salt : ℕ) (starts offsets text bytes : List ℕ) (k : 
 read_number form salt starts offsets text bytes k one other is lt =
     ap (λ (b : List ℕ). from_be_bytes w64 (drop (16 + 8 * k) b)) is
     ∙ ap (from_be_bytes w64)
-      (sym (drop-drop (8 * k) 16 (laid_out form salt starts offsets text)) ∙ ap (drop (8 * k)) (after_header form salt starts offsets text ∙ ap (λ (l : List ℕ). l ++ text) (sym (number_bytes-append starts offsets))))
+    (sym (drop-drop (8 * k) 16 (laid_out form salt starts offsets text)) ∙ ap (drop (8 * k)) (after_header form salt starts offsets text ∙ ap (λ (l : List ℕ). l ++ text) (sym (number_bytes-append starts offsets))))
     ∙ number_at k (starts ++ offsets) text (both_numbers starts offsets one other) (omega (arith, lt, length-append starts offsets))
 
 -- ---- what is held
@@ -104,9 +104,9 @@ seen form salt starts offsets text bits bytes one other back is =
     let laid = laid_out form salt starts offsets text in
     ap (index_in form salt (length starts) (length offsets) (length bits)) is
     ∙ same_index form salt (numbers_at (length starts) (drop 16 laid)) starts (numbers_at (length offsets) (drop (16 + 8 * length starts) laid)) offsets (take (length bits) (bits_of (drop (16 + 8 * (length starts + length offsets)) laid))) bits
-      (ap (numbers_at (length starts)) (after_header form salt starts offsets text ∙ append_assoc (number_bytes starts) (number_bytes offsets) text) ∙ numbers_at_again starts (number_bytes offsets ++ text) one)
-      (ap (numbers_at (length offsets)) (after_starts form salt starts offsets text) ∙ numbers_at_again offsets text other)
-      (ap (λ (b : List ℕ). take (length bits) (bits_of b)) (after_offsets form salt starts offsets text) ∙ back)
+    (ap (numbers_at (length starts)) (after_header form salt starts offsets text ∙ append_assoc (number_bytes starts) (number_bytes offsets) text) ∙ numbers_at_again starts (number_bytes offsets ++ text) one)
+    (ap (numbers_at (length offsets)) (after_starts form salt starts offsets text) ∙ numbers_at_again offsets text other)
+    (ap (λ (b : List ℕ). take (length bits) (bits_of b)) (after_offsets form salt starts offsets text) ∙ back)
 
 pub held : (form salt : ℕ) (starts offsets text : List ℕ) (bits : List Bool) (bytes : List ℕ) → AreNumbers starts → AreNumbers offsets → text ≡ text_of bits → take (length bits) (bits_of text) ≡ bits → bytes ≡ laid_out form salt starts offsets text
     → IsHeld form salt (length starts) (length offsets) (length bits) bytes

@@ -14,3 +14,4 @@ pub mod Walkings
 pub mod Sortings
 pub mod Finds
 pub mod Plains
+pub mod Ascents

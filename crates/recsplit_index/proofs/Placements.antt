@@ -86,10 +86,10 @@ node_leaf (suc splits) tries depth keys few = rw (le-leb (length keys) 8 few) re
 abbrev pub split_by : ℕ → ℕ → ℕ → List HashedKey → Option ℕ → Option Node
 split_by splits tries depth keys seed =
     option_and_then
-      (λ seed.
-          option_and_then (λ one. option_map (joined (length keys) seed one) (node splits tries (depth + 1) (filter (goes_right depth seed (length keys)) keys)))
-          (node splits tries (depth + 1) (filter (goes_left depth seed (length keys)) keys)))
-      seed
+    (λ seed.
+    option_and_then (λ one. option_map (joined (length keys) seed one) (node splits tries (depth + 1) (filter (goes_right depth seed (length keys)) keys)))
+    (node splits tries (depth + 1) (filter (goes_left depth seed (length keys)) keys)))
+    seed
 
 pub node_split : (splits tries depth : ℕ) (keys : List HashedKey) (seed : Option ℕ) → 8 < length keys → seed ≡ first_below (is_split_seed depth keys) tries → node (suc splits) tries depth keys ≡ split_by splits tries depth keys seed
 unfolding node
@@ -101,11 +101,12 @@ joined_puts size seed r None other placed bits0 bits offsets bits1 offsets1 bits
 joined_puts size seed r (Some n) None placed bits0 bits offsets bits1 offsets1 bits2 offsets2 r-is coded first second = second
 joined_puts size seed r (Some n) (Some m) placed bits0 bits offsets bits1 offsets1 bits2 offsets2 r-is coded first second =
     let code = rice_code (parameter size) seed in
-    let here : bits ≡ bits0 ++ code = coded ∙ ap (λ (p : ℕ). bits0 ++ rice_code p seed) r-is in
-    (second.0,
-    second.1 ∙ ap (λ (l : List Bool). l ++ m.bits) (first.1 ∙ ap (λ (l : List Bool). l ++ n.bits) here) ∙ ap (λ (l : List Bool). l ++ m.bits) (append_assoc bits0 code n.bits) ∙ append_assoc bits0 (code ++ n.bits) m.bits
-      ∙ ap (λ (l : List Bool). bits0 ++ l) (append_assoc code n.bits m.bits),
-    second.2 ∙ ap (λ (l : List ℕ). l ++ offsets_of m.slots) first.2 ∙ append_assoc offsets (offsets_of n.slots) (offsets_of m.slots) ∙ ap (λ (l : List ℕ). offsets ++ l) (sym (offsets-append n.slots m.slots)))
+    let here : bits ≡ bits0 ++ code = coded ∙ ap (λ (p : ℕ). bits0 ++ rice_code p seed) r-is in (
+      second.0,
+      second.1 ∙ ap (λ (l : List Bool). l ++ m.bits) (first.1 ∙ ap (λ (l : List Bool). l ++ n.bits) here) ∙ ap (λ (l : List Bool). l ++ m.bits) (append_assoc bits0 code n.bits) ∙ append_assoc bits0 (code ++ n.bits) m.bits
+          ∙ ap (λ (l : List Bool). bits0 ++ l) (append_assoc code n.bits m.bits),
+      second.2 ∙ ap (λ (l : List ℕ). l ++ offsets_of m.slots) first.2 ∙ append_assoc offsets (offsets_of n.slots) (offsets_of m.slots) ∙ ap (λ (l : List ℕ). offsets ++ l) (sym (offsets-append n.slots m.slots)),
+    )
 
 -- no seed, or no seed under it
 pub puts_no_split : (splits tries depth : ℕ) (keys : List HashedKey) (bits : List Bool) (offsets : List ℕ) → length keys ≤ splits → 8 < length keys → None ≡ first_below (is_split_seed depth keys) tries → PutsNode false (node splits tries depth keys) bits offsets bits offsets
@@ -145,8 +146,8 @@ puts_split (suc splits) tries depth keys left right seed r placed bits0 bits off
     let same : node (suc splits - 1) tries (depth + 1) right ≡ node splits tries (depth + 1) rights = ap (λ (m : ℕ). node m tries (depth + 1) right) one_less ∙ ap (node splits tries (depth + 1)) right-is in
     puts_same placed (node (suc splits) tries depth keys) (split_by splits tries depth keys (Some seed)) bits0 offsets bits2 offsets2 (node_split splits tries depth keys (Some seed) many is)
     (joined_puts size seed r (node splits tries (depth + 1) lefts) (node splits tries (depth + 1) rights) placed bits0 bits offsets bits1 offsets1 bits2 offsets2 r-is coded
-      (puts_same true _ _ bits offsets bits1 offsets1 (ap (node splits tries (depth + 1)) (sym left-is)) (first splits few_left))
-      (puts_same placed _ _ bits1 offsets1 bits2 offsets2 (sym same) second))
+    (puts_same true _ _ bits offsets bits1 offsets1 (ap (node splits tries (depth + 1)) (sym left-is)) (first splits few_left))
+    (puts_same placed _ _ bits1 offsets1 bits2 offsets2 (sym same) second))
 
 -- a node that is a leaf
 pub puts_node_leaf : (splits tries depth : ℕ) (keys : List HashedKey) (placed : Bool) (bits : List Bool) (offsets : List ℕ) (new_bits : List Bool) (new_offsets : List ℕ) → length keys ≤ 8 → PutsNode placed (leaf tries depth keys) bits offsets new_bits new_offsets → PutsNode placed (node splits tries depth keys) bits offsets new_bits new_offsets

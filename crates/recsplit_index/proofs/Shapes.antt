@@ -123,7 +123,7 @@ node_all P (suc splits) tries depth keys n is all =
           let right = filter (goes_right depth s.seed (length keys)) keys in
           subst (λ (m : Node). AllByRecursion P m.slots) s.node_is
           (all_both P s.one.slots s.other.slots (node_all P splits tries (depth + 1) left s.one s.left_is (all_filtered P (goes_left depth s.seed (length keys)) keys all))
-            (node_all P splits tries (depth + 1) right s.other s.right_is (all_filtered P (goes_right depth s.seed (length keys)) keys all)))
+          (node_all P splits tries (depth + 1) right s.other s.right_is (all_filtered P (goes_right depth s.seed (length keys)) keys all)))
       | inr few ↦ leaf_all P tries depth keys n (sym (node_leaf (suc splits) tries depth keys few) ∙ is) all
     ]
 

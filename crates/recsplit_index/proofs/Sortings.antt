@@ -9,16 +9,13 @@ use Rattle.std.specs.declared.cmp.Ordering.{Ordering}
 use Rattle.std.specs.declared.cmp.Ordering.TheVariants.{Less, Equal, Greater}
 use Rattle.std.specs.BTreeMap.{insert_entry}
 use Rattle.std.proofs.lemmas.Map.Lookups.{exact_bytes}
-use Rattle.std.proofs.lemmas.Bool.{cases_lt}
+use Rattle.std.proofs.lemmas.Bool.{cases_lt, cases_order}
 use Rattle.std.proofs.lemmas.Grind.{pow_more}
 use Rattle.std.proofs.lemmas.Option.{slice_get-get_or, get_or_from_slice_get}
 use Rattle.std.proofs.lemmas.List.{length-map, get_or-map}
 use Rattle.std.proofs.Math.Nat.{mul-le-mul_right, pow-le-pow_right}
-use Rattle.recsplit_index.specs.Keys.{key_count, key_at, key_offset, first_by_key, by_key, IsKeyAt, IsNoKey}
+use Rattle.recsplit_index.specs.Keys.{key_count, key_at, key_offset, first_by_key, by_key, IsKeyAt, IsNoKey, KeysAscend, KeysDiffer}
 use Rattle.recsplit_index.proofs.Every.{all_weaker, all_at}
-
-cmp : List ℕ → List ℕ → Ordering
-cmp a b = slice_cmp nat_cmp a b
 
 -- each entry's key is below those after it
 Ascends : List (List ℕ × ℕ) → Type 0
@@ -223,6 +220,7 @@ apart e = cc
 
 self_less : (q : List ℕ) → slice_cmp nat_cmp q q ≡ Less → ⊥
 self_less q is = let other : slice_cmp nat_cmp q q ≡ Greater = flipped q q Less is in apart (sym is ∙ other)
+
 self_greater : (q : List ℕ) → slice_cmp nat_cmp q q ≡ Greater → ⊥
 self_greater q is = let other : slice_cmp nat_cmp q q ≡ Less = flipped q q Greater is in apart (sym other ∙ is)
 
@@ -280,3 +278,12 @@ pub same_to : (a b : List ℕ) (o : Ordering) (r : Bool) → o ≡ slice_cmp nat
 same_to a b o r o-is r-is same =
     let self : o ≡ slice_cmp nat_cmp b b = o-is ∙ ap (λ (x : List ℕ). slice_cmp nat_cmp x b) same in
     r-is ∙ ap is_eq (self_equal b o (sym self))
+
+-- keys that ascend differ
+pub ascending_differ : (words : List (List ℕ)) → KeysAscend words → KeysDiffer words
+ascending_differ words up p q lt less same =
+    elim (cases_order p q) [
+      | inl equal ↦ equal
+      | inr (inl below) ↦ absurd (self_less (key_at words q) (not_equal (key_at words p) (key_at words q) Less (up p q below less) same))
+      | inr (inr above) ↦ absurd (self_less (key_at words p) (not_equal (key_at words q) (key_at words p) Less (up q p above lt) (sym same)))
+    ]

@@ -210,9 +210,6 @@ some_and P Q (Some x) f p = f x p
 abbrev pub Leads : Reading → ℕ → ℕ → ℕ → Option ℕ → Type 0
 Leads old depth size hash result = (keys : List HashedKey) (n : Node) → size ≡ length keys → IsNodeAt old.bits old.at depth keys n → IsSomeAnd result (λ slot. IsSlotOf hash slot keys n.slots)
 
-left_test : (place left : ℕ) → place < left → ltb place left ≡ true
-left_test place left lt = lt-ltb place left lt
-
 pub walk_left : (old new : Reading) (depth size left r seed place hash : ℕ) (result slot : Option ℕ) → 8 < size → r ≡ parameter size → left ≡ left_of size → place < left → ReadsCode old new r result → result ≡ Some seed → place ≡ position depth seed size hash → Leads new (depth + 1) left hash slot → Leads old depth size hash slot
 walk_left old new depth size left r seed place hash result slot many r-is left-is less reads result-is place-is leads = λ keys n is there.
     let s = split_at old.bits old.at depth keys n (omega (arith, many, is)) there in
@@ -227,14 +224,14 @@ walk_left old new depth size left r seed place hash result slot many r-is left-i
     let some = left_some k (omega (arith, many, is)) in
     some_and (λ x. IsSlotOf hash x lefts s.one.slots) (λ x. IsSlotOf hash x keys n.slots) slot
     (λ x found.
-        record {
-          within = omega (arith, found.within, s.left_long, some.1);
-          only =
-              all_weaker (λ key. key.hash ≡ hash → key.hash ≡ hash → slice_get s.one.slots x ≡ Some key) (λ key. key.hash ≡ hash → slice_get n.slots x ≡ Some key) keys
-              (λ key f hashed. ap (λ (l : List HashedKey). slice_get l x) s.slots_are ∙ get_front s.one.slots s.other.slots x key (f hashed hashed))
-              (all_unfiltered (λ key. key.hash ≡ hash) (λ key. key.hash ≡ hash → slice_get s.one.slots x ≡ Some key) (goes_left depth s.seed k) keys
-                (λ key hashed. ap (λ (h : ℕ). ltb (position depth s.seed k h) (left_of k)) hashed ∙ lt-ltb (position depth s.seed k hash) (left_of k) below) found.only);
-        })
+    record {
+      within = omega (arith, found.within, s.left_long, some.1);
+      only =
+          all_weaker (λ key. key.hash ≡ hash → key.hash ≡ hash → slice_get s.one.slots x ≡ Some key) (λ key. key.hash ≡ hash → slice_get n.slots x ≡ Some key) keys
+          (λ key f hashed. ap (λ (l : List HashedKey). slice_get l x) s.slots_are ∙ get_front s.one.slots s.other.slots x key (f hashed hashed))
+          (all_unfiltered (λ key. key.hash ≡ hash) (λ key. key.hash ≡ hash → slice_get s.one.slots x ≡ Some key) (goes_left depth s.seed k) keys
+          (λ key hashed. ap (λ (h : ℕ). ltb (position depth s.seed k h) (left_of k)) hashed ∙ lt-ltb (position depth s.seed k hash) (left_of k) below) found.only);
+    })
     (leads lefts s.one left_long there2)
 
 pub walk_right : (old new next : Reading) (depth size left right r seed place hash : ℕ) (result : Option ℕ) (slot : ℕ) → 8 < size → r ≡ parameter size → left ≡ left_of size → right ≡ size - left → left ≤ place → ReadsCode old new r result → result ≡ Some seed → place ≡ position depth seed size hash → Skips new next left
@@ -262,7 +259,7 @@ walk_right old new next depth size left right r seed place hash result slot many
           all_weaker (λ key. key.hash ≡ hash → key.hash ≡ hash → slice_get s.other.slots slot ≡ Some key) (λ key. key.hash ≡ hash → slice_get n.slots (left + slot) ≡ Some key) keys
           (λ key f hashed. ap (λ (l : List HashedKey). slice_get l (left + slot)) s.slots_are ∙ get_back s.one.slots s.other.slots slot (left + slot) (Some key) (omega (arith, one_long)) (f hashed hashed))
           (all_unfiltered (λ key. key.hash ≡ hash) (λ key. key.hash ≡ hash → slice_get s.other.slots slot ≡ Some key) (goes_right depth s.seed k) keys
-            (λ key hashed. ap (λ (h : ℕ). not (ltb (position depth s.seed k h) (left_of k))) hashed ∙ ap not (le-ltb (position depth s.seed k hash) (left_of k) above)) found.only);
+          (λ key hashed. ap (λ (h : ℕ). not (ltb (position depth s.seed k h) (left_of k))) hashed ∙ ap not (le-ltb (position depth s.seed k hash) (left_of k) above)) found.only);
     }
 
 pub slot_below : (old : Reading) (depth size hash : ℕ) (slot : ℕ) → Leads old depth size hash (Some slot) → HasNode old.bits old.at depth size → slot < size

@@ -3,6 +3,7 @@ use Rattle.std.specs.Prelude.{◌≡◌, ℕ, zero, suc, ◌*◌, ◌/◌, ◌<�
 use Rattle.std.specs.List.{range_with_len}
 use Rattle.std.specs.Ordering.{nat_cmp}
 use Rattle.std.specs.Cmp.Lexicographic.{slice_cmp}
+use Rattle.std.specs.declared.cmp.Ordering.TheVariants.{Less}
 use Rattle.std.specs.BTreeMap.{insert_entry}
 use Rattle.word_file.specs.Spelling.{offset_at}
 use Rattle.recsplit_index.specs.declared.keys.HashedKey.{HashedKey}
@@ -55,3 +56,10 @@ pub record IsKeyAt (words : List (List ℕ)) (key : List ℕ) (offset : ℕ) : T
 -- no key is this one
 abbrev pub IsNoKey : List (List ℕ) → List ℕ → Type 0
 IsNoKey words key = (place : ℕ) → place < key_count words → key_at words place ≡ key → ⊥
+
+-- byte by byte, and a prefix before what it begins; keys that ascend differ
+abbrev pub IsBelow : List ℕ → List ℕ → Type 0
+IsBelow one other = slice_cmp nat_cmp one other ≡ Less
+
+abbrev pub KeysAscend : List (List ℕ) → Type 0
+KeysAscend words = (p q : ℕ) → p < q → q < key_count words → IsBelow (key_at words p) (key_at words q)

@@ -83,11 +83,11 @@ node zero tries depth keys = leaf tries depth keys
 node (suc splits) tries depth keys =
     if nat_le (length keys) 8 then leaf tries depth keys
     else
-      option_and_then
-        (λ seed.
-            option_and_then (λ one. option_map (joined (length keys) seed one) (node splits tries (depth + 1) (filter (goes_right depth seed (length keys)) keys)))
-            (node splits tries (depth + 1) (filter (goes_left depth seed (length keys)) keys)))
-        (first_below (is_split_seed depth keys) tries)
+    option_and_then
+    (λ seed.
+    option_and_then (λ one. option_map (joined (length keys) seed one) (node splits tries (depth + 1) (filter (goes_right depth seed (length keys)) keys)))
+    (node splits tries (depth + 1) (filter (goes_left depth seed (length keys)) keys)))
+    (first_below (is_split_seed depth keys) tries)
 
 abbrev pub offsets_of : List HashedKey → List ℕ
 offsets_of keys = map (λ key. key.offset) keys

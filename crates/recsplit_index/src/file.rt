@@ -168,12 +168,7 @@ impl HashIndex {
     }
     /// The offset of this key's word, and `None` where it is no key of the file. The key is compared with
     /// the word to which its hash leads, or with the words of a search in form 0.
-    pub fn find<L: Ledger>(
-        &self,
-        words: &WordFile,
-        key: &[u8],
-        steps: &mut Steps<L>,
-    ) -> Option<u64>
+    pub fn find<L: Ledger>(&self, words: &WordFile, key: &[u8], steps: &mut Steps<L>) -> Option<u64>
         requires { IsIndexOf words.now.words self.now }
         ensures found { IfSome result (λ offset. IsKeyAt words.now.words key.now offset) }
         ensures none { IfNone result (IsNoKey words.now.words key.now) }

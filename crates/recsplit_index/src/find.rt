@@ -28,12 +28,7 @@ fn compare_at<L: Ledger>(words: &WordFile, at: u64, key: &[u8], steps: &mut Step
 }
 
 /// Whether the word at this offset is the key.
-pub(crate) fn is_key<L: Ledger>(
-    words: &WordFile,
-    at: u64,
-    key: &[u8],
-    steps: &mut Steps<L>,
-) -> bool
+pub(crate) fn is_key<L: Ledger>(words: &WordFile, at: u64, key: &[u8], steps: &mut Steps<L>) -> bool
     requires { StartsAt words.now.words at }
     ensures value { (i : ℕ) → IsPlace words.now.words at i → IsTrue result ↔ (slice_index_or words.now.words i [] ≡ key.now) }
     ensures steps { steps.new ≡ steps.old + 1 }

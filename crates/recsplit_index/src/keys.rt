@@ -111,11 +111,7 @@ pub(crate) fn by_key<L: Ledger>(
     Ok(tree)
 }
 
-fn put_in_group(
-    groups: &mut Vec<Vec<HashedKey>>,
-    at: usize,
-    key: HashedKey,
-) -> Result<(), Memory>
+fn put_in_group(groups: &mut Vec<Vec<HashedKey>>, at: usize, key: HashedKey) -> Result<(), Memory>
     requires { at < length groups.old.items }
     ensures { OnOk result (map (λ g. g.items) groups.new.items ≡ slice_set (map (λ g. g.items) groups.old.items) at (slice_index_or (map (λ g. g.items) groups.old.items) at [] ++ key ∷ [])) }
 {

@@ -13,3 +13,6 @@ mod walk;
 
 pub use file::HashIndex;
 pub use hash::key_hash;
+
+#[cfg(test)]
+mod tests;

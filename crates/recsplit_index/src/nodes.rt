@@ -78,12 +78,7 @@ fn put_all(keys: &[HashedKey], offsets: &mut Vec<u64>) -> Result<(), Memory>
 }
 
 /// Puts a leaf down, unless it has no seed below the limit.
-fn put_leaf(
-    keys: &[HashedKey],
-    depth: u64,
-    tries: u32,
-    out: &mut Parts,
-) -> Result<bool, Memory>
+fn put_leaf(keys: &[HashedKey], depth: u64, tries: u32, out: &mut Parts) -> Result<bool, Memory>
     requires few { length keys.now ≤ 8 }
     requires tries { tries ≤ 2 ^ 16 }
     ensures { IfOk result (λ placed. PutsNode placed (leaf tries depth keys.now) out.old.codes out.old.offsets.items out.new.codes out.new.offsets.items) }
@@ -95,7 +90,8 @@ fn put_leaf(
     let Some(seed) = leaf_seed(keys, depth, tries) else {
         return Ok(false);
     };
-    out.codes.push(u64::from(seed), parameter(keys.len() as u64))?;
+    out.codes
+        .push(u64::from(seed), parameter(keys.len() as u64))?;
     put_by_position(keys, depth, seed, &mut out.offsets)?;
     Ok(true)
 }
@@ -140,7 +136,8 @@ pub(crate) fn put_node(
     let Some(seed) = split_seed(keys, depth, tries) else {
         return Ok(false);
     };
-    out.codes.push(u64::from(seed), parameter(keys.len() as u64))?;
+    out.codes
+        .push(u64::from(seed), parameter(keys.len() as u64))?;
     let (left, right) = sides_of(alloc, keys, depth, seed)?;
     if !put_node(alloc, left.as_slice(), depth + 1, tries, out)? {
         return Ok(false);

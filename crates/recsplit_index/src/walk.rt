@@ -25,12 +25,7 @@ fn skip(reader: &mut RiceReader<'_>, size: u64)
 }
 
 /// The slot, in a node of this size, to which the hash leads.
-pub(crate) fn walk(
-    reader: &mut RiceReader<'_>,
-    depth: u64,
-    size: u64,
-    hash: u64,
-) -> Option<u64>
+pub(crate) fn walk(reader: &mut RiceReader<'_>, depth: u64, size: u64, hash: u64) -> Option<u64>
     requires some { 0 < size }
     requires deep { depth + size < 2 ^ 64 }
     requires there { HasNode reader.old.bits reader.old.at depth size }

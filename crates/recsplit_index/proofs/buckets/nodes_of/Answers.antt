@@ -53,8 +53,8 @@ loop-group-preserved c =
     let group : c.as_slice.result.now ≡ bucket_keys buckets keys i = c.as_slice.ensures.value ∙ group_at buckets groups keys i c.group-item.result lt (c.group-item.is ∙ ap (λ (l : List (Vec HashedKey Global)). get_or l i c.group-item.result) c.deref-group-items.ensures.value) c.in_ok-groups.ensures in
     building_more c.args.tries buckets keys i c.loop-group.starts.items c.put_start.new.starts.items c.loop-group.parts.codes c.put_node.new.out.codes c.loop-group.parts.offsets.items c.put_node.new.out.offsets.items less c.loop-group.invariant c.in_ok-put_start.ensures
     (group_puts true c.args.tries buckets i keys c.as_slice.result.now c.loop-group.parts.codes c.put_node.new.out.codes c.loop-group.parts.offsets.items c.put_node.new.out.offsets.items group
-      (subst (λ (b : Bool). PutsNode b (node (length c.as_slice.result.now) c.args.tries 0 c.as_slice.result.now) c.loop-group.parts.codes c.loop-group.parts.offsets.items c.put_node.new.out.codes c.put_node.new.out.offsets.items) c.if-not-branch.false
-        (c.in_ok-put_node.ensures (length c.as_slice.result.now) (le_refl _))))
+    (subst (λ (b : Bool). PutsNode b (node (length c.as_slice.result.now) c.args.tries 0 c.as_slice.result.now) c.loop-group.parts.codes c.loop-group.parts.offsets.items c.put_node.new.out.codes c.put_node.new.out.offsets.items) c.if-not-branch.false
+    (c.in_ok-put_node.ensures (length c.as_slice.result.now) (le_refl _))))
 
 pub returns : goal.returns
 returns c =

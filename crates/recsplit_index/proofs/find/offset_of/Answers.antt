@@ -28,14 +28,14 @@ pub overflow_sub-size : goal.overflow_sub-size
 overflow_sub-size c =
     let below : c.scale-bucket.result < c.args.starts / 2 - 1 = omega (arith, c.scale-bucket.ensures.below, c.if-buckets-eq0.false) in
     (read_of c.requires.0 c.args.starts c.args.count c.args.bits c.args.hash c.args.bytes.now c.scale-bucket.result c.number_at-first.result c.number_at-bit.result c.number_at.result c.scale-bucket.ensures.value below c.number_at-first.ensures
-      c.number_at-bit.ensures c.number_at.ensures c.requires.1).order
+    c.number_at-bit.ensures c.number_at.ensures c.requires.1).order
 
 pub returns-then-size-eq0-clause-none : goal.returns-then-size-eq0-clause-none
 returns-then-size-eq0-clause-none c = λ keys s.
     let below : c.scale-bucket.result < c.args.starts / 2 - 1 = omega (arith, c.scale-bucket.ensures.below, c.if-buckets-eq0.false) in
     none_read keys c.args.starts c.args.count c.args.bits c.args.hash c.args.bytes.now c.scale-bucket.result c.number_at-first.result c.number_at-bit.result c.number_at.result c.if-size-eq0.true
     (read_of keys c.args.starts c.args.count c.args.bits c.args.hash c.args.bytes.now c.scale-bucket.result c.number_at-first.result c.number_at-bit.result c.number_at.result c.scale-bucket.ensures.value below c.number_at-first.ensures
-      c.number_at-bit.ensures c.number_at.ensures s)
+    c.number_at-bit.ensures c.number_at.ensures s)
 
 pub overflow_add-starts : goal.overflow_add-starts
 overflow_add-starts c = omega (arith, (whole_of c.requires.0 c.args.starts c.args.count c.args.bits c.args.bytes.now c.requires.1).long)
@@ -51,14 +51,14 @@ slot_in-requires-clause-there c =
     let below : c.scale-bucket.result < c.args.starts / 2 - 1 = omega (arith, c.scale-bucket.ensures.below, c.if-buckets-eq0.false) in
     node_read c.requires.0 c.args.starts c.args.count c.args.bits c.args.hash c.args.bytes.now c.scale-bucket.result c.number_at-first.result c.number_at-bit.result c.number_at.result
     (read_of c.requires.0 c.args.starts c.args.count c.args.bits c.args.hash c.args.bytes.now c.scale-bucket.result c.number_at-first.result c.number_at-bit.result c.number_at.result c.scale-bucket.ensures.value below c.number_at-first.ensures
-      c.number_at-bit.ensures c.number_at.ensures c.requires.1)
+    c.number_at-bit.ensures c.number_at.ensures c.requires.1)
 
 pub returns-in_err-slot-clause-none : goal.returns-in_err-slot-clause-none
 returns-in_err-slot-clause-none c =
     let below : c.scale-bucket.result < c.args.starts / 2 - 1 = omega (arith, c.scale-bucket.ensures.below, c.if-buckets-eq0.false) in
     let there = node_read c.requires.0 c.args.starts c.args.count c.args.bits c.args.hash c.args.bytes.now c.scale-bucket.result c.number_at-first.result c.number_at-bit.result c.number_at.result
     (read_of c.requires.0 c.args.starts c.args.count c.args.bits c.args.hash c.args.bytes.now c.scale-bucket.result c.number_at-first.result c.number_at-bit.result c.number_at.result c.scale-bucket.ensures.value below c.number_at-first.ensures
-      c.number_at-bit.ensures c.number_at.ensures c.requires.1)
+    c.number_at-bit.ensures c.number_at.ensures c.requires.1)
     in
     absurd (none_leads _ c.slot_in.result c.in_err-slot.was (c.slot_in.ensures there.keys there.built there.size_is there.there))
 
@@ -76,8 +76,11 @@ overflow_add-starts-3 c =
     let r = read_of c.requires.0 c.args.starts c.args.count c.args.bits c.args.hash c.args.bytes.now c.scale-bucket.result c.number_at-first.result c.number_at-bit.result c.number_at.result c.scale-bucket.ensures.value below c.number_at-first.ensures
     c.number_at-bit.ensures c.number_at.ensures c.requires.1
     in
-    omega (arith, slot_room c.requires.0 c.args.starts c.args.count c.args.bits c.args.hash c.args.bytes.now c.scale-bucket.result c.number_at-first.result c.number_at-bit.result c.number_at.result c.in_ok-slot.slot c.slot_in.result r c.slot_in.ensures c.in_ok-slot.was,
-      (whole_of c.requires.0 c.args.starts c.args.count c.args.bits c.args.bytes.now c.requires.1).long)
+    omega (
+      arith,
+      slot_room c.requires.0 c.args.starts c.args.count c.args.bits c.args.hash c.args.bytes.now c.scale-bucket.result c.number_at-first.result c.number_at-bit.result c.number_at.result c.in_ok-slot.slot c.slot_in.result r c.slot_in.ensures c.in_ok-slot.was,
+      (whole_of c.requires.0 c.args.starts c.args.count c.args.bits c.args.bytes.now c.requires.1).long,
+    )
 
 pub number_at-requires-2 : goal.number_at-requires-2
 number_at-requires-2 c =
@@ -85,8 +88,11 @@ number_at-requires-2 c =
     let r = read_of c.requires.0 c.args.starts c.args.count c.args.bits c.args.hash c.args.bytes.now c.scale-bucket.result c.number_at-first.result c.number_at-bit.result c.number_at.result c.scale-bucket.ensures.value below c.number_at-first.ensures
     c.number_at-bit.ensures c.number_at.ensures c.requires.1
     in
-    omega (arith, slot_room c.requires.0 c.args.starts c.args.count c.args.bits c.args.hash c.args.bytes.now c.scale-bucket.result c.number_at-first.result c.number_at-bit.result c.number_at.result c.in_ok-slot.slot c.slot_in.result r c.slot_in.ensures c.in_ok-slot.was,
-      (whole_of c.requires.0 c.args.starts c.args.count c.args.bits c.args.bytes.now c.requires.1).long)
+    omega (
+      arith,
+      slot_room c.requires.0 c.args.starts c.args.count c.args.bits c.args.hash c.args.bytes.now c.scale-bucket.result c.number_at-first.result c.number_at-bit.result c.number_at.result c.in_ok-slot.slot c.slot_in.result r c.slot_in.ensures c.in_ok-slot.was,
+      (whole_of c.requires.0 c.args.starts c.args.count c.args.bits c.args.bytes.now c.requires.1).long,
+    )
 
 pub returns-clause-found : goal.returns-clause-found
 returns-clause-found c = λ keys s.

@@ -40,9 +40,9 @@ returns t c = λ splits enough.
     in
     IfOk-weaker c.put_node-2.result (λ (placed : Bool). PutsNode placed (node (splits - 1) c.args.tries (c.args.depth + 1) c.as_slice-2.result.now) c.put_node.new.out.codes c.put_node.new.out.offsets.items c.put_node-2.new.out.codes c.put_node-2.new.out.offsets.items) _
     (λ placed puts.
-        puts_split splits c.args.tries c.args.depth keys c.as_slice.result.now c.as_slice-2.result.now c.in-Some.seed c.parameter.result placed c.args.out.now.codes c.push.new.self c.args.out.now.offsets.items c.put_node.new.out.codes c.put_node.new.out.offsets.items
-        c.put_node-2.new.out.codes c.put_node-2.new.out.offsets.items enough c.if-keys-le8.false (sym c.in-Some.is ∙ c.split_seed.ensures.first) c.in-Some.ensures.works (c.as_slice.ensures.value ∙ c.in_ok-left.ensures.left)
-        (c.as_slice-2.ensures.value ∙ c.in_ok-left.ensures.right) c.parameter.ensures.value (c.in_ok-push.ensures.ok ∙ ap (λ (s : ℕ). c.args.out.now.codes ++ rice_code c.parameter.result s) c.from.ensures)
-        (λ more less. subst (λ (b : Bool). PutsNode b (node more c.args.tries (c.args.depth + 1) c.as_slice.result.now) c.push.new.self c.args.out.now.offsets.items c.put_node.new.out.codes c.put_node.new.out.offsets.items) c.if-not-branch.false (c.in_ok-put_node.ensures more less))
-        puts)
+    puts_split splits c.args.tries c.args.depth keys c.as_slice.result.now c.as_slice-2.result.now c.in-Some.seed c.parameter.result placed c.args.out.now.codes c.push.new.self c.args.out.now.offsets.items c.put_node.new.out.codes c.put_node.new.out.offsets.items
+    c.put_node-2.new.out.codes c.put_node-2.new.out.offsets.items enough c.if-keys-le8.false (sym c.in-Some.is ∙ c.split_seed.ensures.first) c.in-Some.ensures.works (c.as_slice.ensures.value ∙ c.in_ok-left.ensures.left)
+    (c.as_slice-2.ensures.value ∙ c.in_ok-left.ensures.right) c.parameter.ensures.value (c.in_ok-push.ensures.ok ∙ ap (λ (s : ℕ). c.args.out.now.codes ++ rice_code c.parameter.result s) c.from.ensures)
+    (λ more less. subst (λ (b : Bool). PutsNode b (node more c.args.tries (c.args.depth + 1) c.as_slice.result.now) c.push.new.self c.args.out.now.offsets.items c.put_node.new.out.codes c.put_node.new.out.offsets.items) c.if-not-branch.false (c.in_ok-put_node.ensures more less))
+    puts)
     (c.put_node-2.ensures (splits - 1) fits)

@@ -1,4 +1,4 @@
-use Rattle.std.proofs.Common.{◌≡◌, ◌+◌, ◌<◌, List,  [], Bool, ℕ, true, length, map, subst, slice_set, ◌∷◌, drop, sym, ◌∙◌, arith}
+use Rattle.std.proofs.Common.{◌≡◌, ◌+◌, ◌<◌, List, [], Bool, ℕ, true, length, map, subst, slice_set, ◌∷◌, drop, sym, ◌∙◌, arith}
 use Rattle.recsplit_index.specs.declared.keys.HashedKey.{HashedKey}
 use Rattle.std.proofs.lemmas.List.{drop_all}
 use Rattle.recsplit_index.specs.Nodes.{is_leaf_seed, place_under, all_differ}

@@ -9,22 +9,28 @@ returns-then-size-lt2 t c = skip_few c.args.reader.now c.args.size c.if-size-lt2
 
 pub skip-requires : goal.skip-requires
 skip-requires t c =
-    let some = left_some c.args.size c.if-size-gt8.true in
-    (omega (arith, some.1, c.left_of-left.ensures, c.decreases),
-    (c.requires.0 + 1,
+    let some = left_some c.args.size c.if-size-gt8.true in (
+      omega (arith, some.1, c.left_of-left.ensures, c.decreases),
+      (
+        c.requires.0 + 1,
         left_there c.args.reader.now c.next-seed.new.self c.requires.0 c.args.size c.left_of-left.result c.parameter.result c.next-seed.result c.if-size-gt8.true c.parameter.ensures.value c.left_of-left.ensures
-        (c.next-seed.ensures.only, c.next-seed.ensures.moves) c.requires.1))
+            (c.next-seed.ensures.only, c.next-seed.ensures.moves) c.requires.1,
+      ),
+    )
 
 pub overflow_sub-size : goal.overflow_sub-size
 overflow_sub-size t c = omega (arith, (left_some c.args.size c.if-size-gt8.true).1, c.left_of-left.ensures)
 
 pub skip-requires-then-size-gt8 : goal.skip-requires-then-size-gt8
 skip-requires-then-size-gt8 t c =
-    let some = left_some c.args.size c.if-size-gt8.true in
-    (omega (arith, some.0, c.left_of-left.ensures, c.decreases),
-    (c.requires.0 + 1,
+    let some = left_some c.args.size c.if-size-gt8.true in (
+      omega (arith, some.0, c.left_of-left.ensures, c.decreases),
+      (
+        c.requires.0 + 1,
         right_there c.args.reader.now c.next-seed.new.self c.skip.new.reader c.requires.0 c.args.size c.left_of-left.result (c.args.size - c.left_of-left.result) c.parameter.result c.next-seed.result c.if-size-gt8.true c.parameter.ensures.value c.left_of-left.ensures
-        refl (c.next-seed.ensures.only, c.next-seed.ensures.moves) c.skip.ensures c.requires.1))
+            refl (c.next-seed.ensures.only, c.next-seed.ensures.moves) c.skip.ensures c.requires.1,
+      ),
+    )
 
 pub returns-then-size-gt8 : goal.returns-then-size-gt8
 returns-then-size-gt8 t c =

@@ -15,9 +15,10 @@ find_sorted-requires g c =
 
 pub offset_of-requires : goal.offset_of-requires
 offset_of-requires g c =
-    let f = c.self.inside in
-    (hashed_keys f.salt c.args.words.now.words,
-    split_held c.args.words.now.words c.args.self.now f.form f.salt f.starts f.count f.bits f.bytes c.as_slice-bytes.result.now c.requires c.if-self-eq0.false (held_as c.args.self.now c.self.invariant c.self.view_is) c.as_slice-bytes.ensures)
+    let f = c.self.inside in (
+      hashed_keys f.salt c.args.words.now.words,
+      split_held c.args.words.now.words c.args.self.now f.form f.salt f.starts f.count f.bits f.bytes c.as_slice-bytes.result.now c.requires c.if-self-eq0.false (held_as c.args.self.now c.self.invariant c.self.view_is) c.as_slice-bytes.ensures,
+    )
 
 pub returns-in_err-offset-clause-none : goal.returns-in_err-offset-clause-none
 returns-in_err-offset-clause-none g c =
