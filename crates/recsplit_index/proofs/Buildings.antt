@@ -1,13 +1,12 @@
 -- The nodes of all buckets, one bucket after the other.
-use Rattle.std.proofs.Common.{◌≡◌, ℕ, zero, suc, ◌+◌, ◌-◌, ◌<◌, ◌≤◌, Bool, true, false, List, [], ◌∷◌, ◌++◌, length, map, Option, Some, None, refl, sym, ap, subst, ◌∙◌, append_assoc, arith}
-use Rattle.std.specs.List.{flat_map}
+use Rattle.std.proofs.Common.{◌≡◌, ℕ, suc, ◌+◌, ◌-◌, ◌<◌, ◌≤◌, Bool, true, false, List, [], ◌∷◌, ◌++◌, length, Option, Some, None, refl, sym, ap, subst, ◌∙◌, append_assoc, arith}
 use Rattle.std.specs.Option.{option_map, option_and_then}
 use Rattle.std.proofs.lemmas.List.{append-nil, length-append, length-map, map-append}
 use Rattle.std.proofs.lemmas.List.Concat.{flat_map-append}
 use Rattle.recsplit_index.specs.declared.keys.HashedKey.{HashedKey}
 use Rattle.recsplit_index.specs.declared.buckets.Built.{Built}
-use Rattle.recsplit_index.specs.Nodes.{Node, node, offsets_of, PutsNode}
-use Rattle.recsplit_index.specs.Index.{bucket_count, bucket_keys, bucket_node, nodes_from, nodes_of, starts_from, slots_of, bits_of_nodes, Holds, HoldsAll}
+use Rattle.recsplit_index.specs.Nodes.{Node, offsets_of, PutsNode}
+use Rattle.recsplit_index.specs.Index.{bucket_count, bucket_node, nodes_from, nodes_of, starts_from, slots_of, bits_of_nodes, Holds, HoldsAll}
 
 -- the nodes so far, and what is left of them
 pub record IsBuilding (tries buckets : ℕ) (keys : List HashedKey) (i : ℕ) (starts : List ℕ) (codes : List Bool) (offsets : List ℕ) : Type 0 where

@@ -1,23 +1,23 @@
 -- A bucket in the bytes of form 1.
-use Rattle.std.proofs.Common.{◌≡◌, ℕ, zero, suc, ◌+◌, ◌-◌, ◌*◌, ◌/◌, ◌^◌, ◌<◌, ◌≤◌, Bool, true, false, eqb, ◌==◌, List, [], ◌∷◌, ◌++◌, length, map, take, drop, get_or, Option, Some, None, refl, sym, ap, subst, ◌∙◌, append_assoc, arith, zero-add}
-use Rattle.std.specs.Prelude.{slice_get, IsSomeAnd, IfSome, IfNone}
-use Rattle.std.specs.List.{filter, flat_map, AllByRecursion}
-use Rattle.std.specs.Option.{option_map, option_and_then}
-use Rattle.std.specs.Int.{div_ceil, w64, from_be_bytes}
+use Rattle.std.proofs.Common.{◌≡◌, ℕ, zero, suc, ◌+◌, ◌-◌, ◌*◌, ◌/◌, ◌<◌, ◌≤◌, Bool, ◌==◌, List, [], ◌∷◌, ◌++◌, length, map, take, drop, get_or, Option, Some, refl, sym, ap, subst, ◌∙◌, arith, zero-add}
+use Rattle.std.specs.Prelude.{slice_get, IsSomeAnd}
+use Rattle.std.specs.List.{AllByRecursion}
+use Rattle.std.specs.Option.{option_map}
+use Rattle.std.specs.Int.{w64, from_be_bytes}
 use Rattle.std.proofs.lemmas.Bool.{eq-eqb}
 use Rattle.std.proofs.lemmas.Option.{slice_get-get_or, get_or_from_slice_get, slice_get_within}
-use Rattle.std.proofs.lemmas.List.{append-nil, length-append, length-map, get_or-map, length-take, length-drop, drop_at, take-append-le, take_all}
+use Rattle.std.proofs.lemmas.List.{length-append, length-map, get_or-map, drop_at, take-append-le, take_all}
 use Rattle.std.proofs.lemmas.List.Concat.{flat_map-append}
 use Rattle.bit_store.specs.Bits.{bits_of, text_of}
 use Rattle.bit_store.specs.Rice.{StandsAt}
-use Rattle.bit_store.proofs.Texts.{length-bits_of, length-bytes_from, bits_of-text_of}
+use Rattle.bit_store.proofs.Texts.{length-bytes_from, bits_of-text_of}
 use Rattle.recsplit_index.specs.declared.keys.HashedKey.{HashedKey}
 use Rattle.std.specs.List.{range_with_len}
 use Rattle.std.proofs.lemmas.List.FromFn.{get_or-map-range_with_len, length-map-range_with_len}
 use Rattle.recsplit_index.specs.Hash.{scaled, key_hash}
 use Rattle.recsplit_index.specs.Keys.{key_count, key_at, key_offset, hashed_key, hashed_keys, IsNoKey}
-use Rattle.recsplit_index.specs.Nodes.{Node, node, offsets_of}
-use Rattle.recsplit_index.specs.Spelling.{Index, laid_out, spelling, IsSpelled}
+use Rattle.recsplit_index.specs.Nodes.{Node, offsets_of}
+use Rattle.recsplit_index.specs.Spelling.{spelling}
 use Rattle.recsplit_index.specs.Index.{bucket_count, bucket_keys, bucket_node, nodes_from, nodes_of, starts_from, slots_of, bits_of_nodes, split_index}
 use Rattle.recsplit_index.specs.Walks.{IsNodeAt, HasNode, IsSlotOf, IsSplitOver, IsOnly, HasNone}
 use Rattle.recsplit_index.proofs.Layouts.{laid_long, after_offsets, read_number}

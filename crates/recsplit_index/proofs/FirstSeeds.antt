@@ -1,5 +1,5 @@
 -- The search for a seed.
-use Rattle.std.proofs.Common.{◌≡◌, ℕ, zero, suc, ◌+◌, ◌-◌, ◌<◌, ◌≤◌, Bool, true, false, cond, Option, Some, None, refl, sym, ap, ◌∙◌, arith}
+use Rattle.std.proofs.Common.{◌≡◌, ℕ, suc, ◌+◌, ◌-◌, ◌<◌, ◌≤◌, Bool, true, false, cond, Some, None, sym, ap, ◌∙◌, arith}
 use Rattle.recsplit_index.specs.Nodes.{first_from}
 
 step_by : (works : ℕ → Bool) (more x : ℕ) (t : Bool) → works x ≡ t → first_from works (suc more) x ≡ cond t (Some x) (first_from works more (x + 1))

@@ -1,7 +1,7 @@
 -- Lists over the keys of a word file.
-use Rattle.std.proofs.Common.{◌≡◌, ◌≢◌, ℕ, zero, suc, ◌+◌, ◌*◌, ◌/◌, ◌<◌, ◌≤◌, Bool, true, false, cond, eqb, ◌==◌, List, [], ◌∷◌, ◌++◌, length, map, take, get_or, set, slice_set, Vec, Global, refl, sym, ap, subst, ◌∙◌, arith, inl, inr, add-one, zero-add}
+use Rattle.std.proofs.Common.{◌≡◌, ◌≢◌, ℕ, ◌+◌, ◌*◌, ◌<◌, ◌≤◌, Bool, true, cond, ◌==◌, List, [], ◌∷◌, ◌++◌, length, map, take, get_or, set, slice_set, Vec, Global, refl, sym, ap, ◌∙◌, arith, inl, inr, add-one, zero-add}
 use Rattle.std.specs.Prelude.{slice_index, slice_index_or}
-use Rattle.std.specs.List.{filter, range_with_len}
+use Rattle.std.specs.List.{range_with_len}
 use Rattle.std.specs.Ordering.{nat_cmp}
 use Rattle.std.specs.Cmp.Lexicographic.{slice_cmp}
 use Rattle.std.specs.BTreeMap.{insert_entry}
@@ -13,7 +13,7 @@ use Rattle.std.proofs.lemmas.List.Elements.{filter_more}
 use Rattle.std.proofs.lemmas.List.FromFn.{map-range_with_len_more, get_or-map-range_with_len, length-map-range_with_len, fill_by_all}
 use Rattle.word_file.specs.Spelling.{IsPlace}
 use Rattle.recsplit_index.specs.declared.keys.HashedKey.{HashedKey}
-use Rattle.recsplit_index.specs.Hash.{key_hash, scaled}
+use Rattle.recsplit_index.specs.Hash.{scaled}
 use Rattle.recsplit_index.specs.Keys.{key_count, key_at, key_offset, key_offsets, hashed_key, hashed_keys, first_by_key, by_key}
 use Rattle.recsplit_index.specs.Index.{bucket_keys}
 

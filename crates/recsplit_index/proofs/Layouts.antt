@@ -1,12 +1,12 @@
 -- What is seen in the bytes of an accessor.
-use Rattle.std.proofs.Common.{◌≡◌, ℕ, zero, suc, ◌+◌, ◌-◌, ◌*◌, ◌^◌, ◌<◌, ◌≤◌, Bool, List, [], ◌∷◌, ◌++◌, length, get_or, take, drop, refl, sym, ap, subst, ◌∙◌, append_assoc, arith}
+use Rattle.std.proofs.Common.{◌≡◌, ℕ, zero, suc, ◌+◌, ◌*◌, ◌^◌, ◌<◌, Bool, List, [], ◌∷◌, ◌++◌, length, get_or, take, drop, refl, sym, ap, subst, ◌∙◌, append_assoc, arith}
 use Rattle.std.specs.List.{flat_map}
-use Rattle.std.specs.Int.{w32, w64, to_be_bytes, from_be_bytes}
+use Rattle.std.specs.Int.{w64, to_be_bytes, from_be_bytes}
 use Rattle.std.proofs.lemmas.List.{append-nil, length-append, drop_at, drop-drop}
 use Rattle.std.proofs.lemmas.List.Concat.{flat_map-append}
 use Rattle.word_file.proofs.Numbers.{wide64}
 use Rattle.bit_store.specs.Bits.{bits_of, text_of}
-use Rattle.recsplit_index.specs.Spelling.{Index, number_bytes, laid_out, spelling, numbers_at, index_in, AreNumbers, IsSpelled, IsHeld}
+use Rattle.recsplit_index.specs.Spelling.{Index, number_bytes, laid_out, numbers_at, index_in, AreNumbers, IsSpelled, IsHeld}
 
 -- ---- numbers of eight bytes
 

@@ -1,19 +1,19 @@
 -- What stands in the bytes of an accessor, by its form.
-use Rattle.std.proofs.Common.{◌≡◌, ℕ, zero, suc, ◌+◌, ◌-◌, ◌*◌, ◌/◌, ◌^◌, ◌<◌, ◌≤◌, List, [], ◌∷◌, ◌++◌, length, map, drop, get_or, Option, Some, None, refl, sym, ap, subst, ◌∙◌, arith, inl, inr}
+use Rattle.std.proofs.Common.{◌≡◌, ℕ, ◌+◌, ◌*◌, ◌<◌, ◌≤◌, List, [], length, map, drop, Option, Some, None, refl, sym, ap, subst, ◌∙◌, arith, inl, inr}
 use Rattle.std.specs.Prelude.{IfSome, IfNone, slice_index_or}
 use Rattle.std.specs.Int.{w64, from_be_bytes}
 use Rattle.std.proofs.lemmas.List.{length-map}
 use Rattle.bit_store.specs.Bits.{text_of}
 use Rattle.word_file.specs.Spelling.{IsPlace}
-use Rattle.recsplit_index.specs.Keys.{key_count, key_at, key_offset, hashed_keys, by_key, IsKeyAt, IsNoKey}
+use Rattle.recsplit_index.specs.Keys.{hashed_keys, by_key, IsKeyAt, IsNoKey}
 use Rattle.recsplit_index.specs.Hash.{key_hash}
-use Rattle.recsplit_index.specs.Spelling.{Index, spelling, laid_out, AreNumbers, IsSpelled}
-use Rattle.recsplit_index.specs.Index.{plain_index, split_index, index_of, IsIndexOf}
-use Rattle.recsplit_index.specs.Walks.{IsSplitOver, IsPlainOver, IsOnly, HasNone}
+use Rattle.recsplit_index.specs.Spelling.{Index, spelling, AreNumbers, IsSpelled}
+use Rattle.recsplit_index.specs.Index.{plain_index, split_index, IsIndexOf}
+use Rattle.recsplit_index.specs.Walks.{IsSplitOver, IsPlainOver, IsOnly}
 use Rattle.recsplit_index.proofs.Layouts.{laid_long, read_number}
-use Rattle.recsplit_index.proofs.Salts.{IsSplitOf, form_of}
+use Rattle.recsplit_index.proofs.Salts.{form_of}
 use Rattle.recsplit_index.proofs.Sortings.{entry, entry_key, entry_offset}
-use Rattle.recsplit_index.proofs.Finds.{IsOnlyAt, only_at, no_hash}
+use Rattle.recsplit_index.proofs.Finds.{IsOnlyAt, only_at}
 
 -- ---- form 0
 

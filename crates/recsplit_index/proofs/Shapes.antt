@@ -1,18 +1,15 @@
 -- What a node is made of, and which slots its keys have.
-use Rattle.std.proofs.Common.{◌≡◌, ℕ, zero, suc, ◌+◌, ◌-◌, ◌*◌, ◌^◌, ◌<◌, ◌≤◌, Bool, true, false, not, cond, ltb, List, [], ◌∷◌, ◌++◌, length, map, take, drop, Option, Some, None, refl, sym, ap, subst, ◌∙◌, append_assoc, arith, inl, inr}
-use Rattle.std.specs.Prelude.{slice_get, IsSomeAnd}
+use Rattle.std.proofs.Common.{◌≡◌, ℕ, zero, suc, ◌+◌, ◌<◌, ◌≤◌, Bool, true, false, cond, List, [], ◌∷◌, ◌++◌, length, take, drop, Option, Some, None, refl, sym, ap, subst, ◌∙◌, arith, inl, inr}
 use Rattle.std.specs.List.{filter, AllByRecursion}
 use Rattle.std.specs.Option.{option_map, option_and_then}
-use Rattle.std.proofs.lemmas.Bool.{cases_lt, cases_Bool, ltb-true, ltb-false, lt-ltb, le-ltb}
+use Rattle.std.proofs.lemmas.Bool.{cases_lt}
 use Rattle.std.proofs.lemmas.List.{length-append, drop-drop, take-take, take_all, take-append-le, drop-take, drop_at}
-use Rattle.bit_store.specs.Rice.{rice_code, StandsAt, Reading}
+use Rattle.bit_store.specs.Rice.{StandsAt}
 use Rattle.recsplit_index.specs.declared.keys.HashedKey.{HashedKey}
-use Rattle.recsplit_index.specs.Hash.{position}
-use Rattle.recsplit_index.specs.Nodes.{Node, node, leaf, leaf_of, by_position, place_under, first_from, first_below, is_leaf_seed, is_split_seed, left_of, goes_left, goes_right, joined, parameter, all_differ}
-use Rattle.recsplit_index.specs.Walks.{IsNodeAt, HasNode, IsSlotOf}
-use Rattle.recsplit_index.proofs.Placements.{leaf_by, leaf_few, node_leaf, node_split, split_by, left_some, left_length, both_lengths}
-use Rattle.recsplit_index.proofs.Positions.{position_small, length-by_position, all-by_position, slots-by_position}
-use Rattle.recsplit_index.proofs.Every.{differ, some_is, all_weaker, all_both, all_filtered, all_unfiltered, get_front, get_back}
+use Rattle.recsplit_index.specs.Nodes.{Node, node, leaf, leaf_of, place_under, first_from, first_below, is_leaf_seed, is_split_seed, goes_left, goes_right, joined}
+use Rattle.recsplit_index.proofs.Placements.{leaf_by, leaf_few, node_leaf, node_split, both_lengths}
+use Rattle.recsplit_index.proofs.Positions.{position_small, length-by_position, all-by_position}
+use Rattle.recsplit_index.proofs.Every.{some_is, all_both, all_filtered}
 
 -- ---- the first seed
 

@@ -1,18 +1,18 @@
 -- A walk through the nodes of a bucket.
-use Rattle.std.proofs.Common.{◌≡◌, ℕ, zero, suc, ◌+◌, ◌-◌, ◌*◌, ◌^◌, ◌<◌, ◌≤◌, Bool, true, false, not, cond, ltb, List, [], ◌∷◌, ◌++◌, length, map, Option, Some, None, refl, sym, ap, subst, ◌∙◌, append_assoc, arith, inl, inr}
+use Rattle.std.proofs.Common.{◌≡◌, ℕ, suc, ◌+◌, ◌-◌, ◌^◌, ◌<◌, ◌≤◌, Bool, true, not, ltb, List, [], ◌∷◌, ◌++◌, length, Option, Some, None, refl, sym, ap, subst, ◌∙◌, arith, inl, inr}
 use Rattle.std.specs.Prelude.{slice_get, IsSomeAnd, IfSome}
 use Rattle.std.specs.List.{filter, AllByRecursion}
 use Rattle.std.proofs.lemmas.Bool.{cases_lt, lt-ltb, le-ltb}
-use Rattle.std.proofs.lemmas.List.{append-nil, length-append}
+use Rattle.std.proofs.lemmas.List.{length-append}
 use Rattle.bit_store.specs.Rice.{rice_code, StandsAt, Reading}
 use Rattle.recsplit_index.specs.declared.keys.HashedKey.{HashedKey}
 use Rattle.recsplit_index.specs.Hash.{position}
-use Rattle.recsplit_index.specs.Nodes.{Node, node, leaf, leaf_of, by_position, place_under, is_leaf_seed, is_split_seed, left_of, goes_left, goes_right, joined, parameter, all_differ}
+use Rattle.recsplit_index.specs.Nodes.{Node, node, by_position, place_under, is_leaf_seed, left_of, goes_left, goes_right, parameter}
 use Rattle.recsplit_index.specs.Walks.{IsNodeAt, HasNode, IsSlotOf}
 use Rattle.recsplit_index.proofs.Placements.{node_leaf, left_some, left_length, both_lengths}
 use Rattle.recsplit_index.proofs.Positions.{position_small, slots-by_position}
 use Rattle.recsplit_index.proofs.Every.{some_is, all_weaker, all_unfiltered, get_front, get_back}
-use Rattle.recsplit_index.proofs.Shapes.{IsLeafNode, IsSplitNode, leaf_shape, split_shape, few_shape, positions_below, node_long, stands_front, stands_back}
+use Rattle.recsplit_index.proofs.Shapes.{leaf_shape, split_shape, few_shape, positions_below, node_long, stands_front, stands_back}
 
 -- ---- what stands at a place
 

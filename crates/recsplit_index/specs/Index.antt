@@ -6,7 +6,7 @@ use Rattle.std.specs.Int.{div_ceil}
 use Rattle.recsplit_index.specs.declared.keys.HashedKey.{HashedKey}
 use Rattle.recsplit_index.specs.declared.buckets.Built.{Built}
 use Rattle.recsplit_index.specs.Hash.{scaled}
-use Rattle.recsplit_index.specs.Keys.{key_count, hashed_keys, by_key}
+use Rattle.recsplit_index.specs.Keys.{hashed_keys, by_key}
 use Rattle.recsplit_index.specs.Nodes.{Node, node, offsets_of}
 use Rattle.recsplit_index.specs.Spelling.{Index}
 

@@ -1,5 +1,5 @@
 -- Where a hash leads in the bits of nodes.
-use Rattle.std.specs.Prelude.{◌≡◌, ℕ, ◌<◌, ◌≤◌, ◌^◌, Bool, List, length, slice_get, Option, Some}
+use Rattle.std.specs.Prelude.{◌≡◌, ℕ, ◌<◌, ◌≤◌, ◌^◌, Bool, List, length, slice_get, Some}
 use Rattle.std.specs.List.{AllByRecursion}
 use Rattle.bit_store.specs.Rice.{StandsAt}
 use Rattle.recsplit_index.specs.declared.keys.HashedKey.{HashedKey}

@@ -1,9 +1,9 @@
-use Rattle.std.proofs.Common.{◌≡◌, true, false, ◌<◌, ◌≤◌, ◌∷◌, ◌++◌, [], Some, None, le_refl, List, Bool, ℕ, Vec, Global, length, get_or, ap, sym, subst, ◌∙◌, arith}
+use Rattle.std.proofs.Common.{◌≡◌, true, false, ◌<◌, ◌≤◌, ◌∷◌, ◌++◌, [], Some, None, le_refl, List, Bool, ℕ, Vec, Global, length, get_or, ap, subst, ◌∙◌, arith}
 use Rattle.recsplit_index.specs.declared.keys.HashedKey.{HashedKey}
 use Rattle.recsplit_index.specs.declared.buckets.Built.{Built}
 use Rattle.recsplit_index.specs.Nodes.{node, PutsNode}
 use Rattle.recsplit_index.specs.Index.{bucket_count, bucket_keys, bucket_node, nodes_of, HoldsAll}
-use Rattle.recsplit_index.proofs.KeyLists.{group_at, grouped_length, lists_of}
+use Rattle.recsplit_index.proofs.KeyLists.{group_at, grouped_length}
 use Rattle.recsplit_index.proofs.Buildings.{IsBuilding, building_more, building_fails, building_all}
 use Rattle.recsplit_index.proofs.buckets.nodes_of.Goals as goal
 

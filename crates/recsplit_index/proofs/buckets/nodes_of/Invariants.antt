@@ -1,4 +1,3 @@
-use Rattle.std.proofs.Common.{length}
 use Rattle.recsplit_index.proofs.Buildings.{IsBuilding}
 use Rattle.recsplit_index.proofs.buckets.nodes_of.Given as goal
 

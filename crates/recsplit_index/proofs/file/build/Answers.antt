@@ -1,6 +1,5 @@
-use Rattle.std.proofs.Common.{◌≡◌, ℕ, List, ap, sym, ◌∙◌}
+use Rattle.std.proofs.Common.{◌≡◌, ℕ, List, ap, ◌∙◌}
 use Rattle.std.proofs.lemmas.Result.{IfOk-weaker}
-use Rattle.recsplit_index.specs.declared.keys.HashedKey.{HashedKey}
 use Rattle.recsplit_index.specs.Keys.{hashed_keys}
 use Rattle.recsplit_index.proofs.Layouts.{index_with}
 use Rattle.recsplit_index.proofs.Salts.{salt_more, salt_found, salt_none}

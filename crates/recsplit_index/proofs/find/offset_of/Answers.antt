@@ -1,4 +1,4 @@
-use Rattle.std.proofs.Common.{◌≡◌, ℕ, ◌+◌, ◌-◌, ◌*◌, ◌/◌, ◌<◌, ◌≤◌, arith}
+use Rattle.std.proofs.Common.{◌-◌, ◌/◌, ◌<◌, arith}
 use Rattle.recsplit_index.proofs.Walkings.{none_leads}
 use Rattle.recsplit_index.proofs.Finds.{whole_of, no_buckets, read_of, node_read, none_read, slot_room, only_read}
 use Rattle.recsplit_index.proofs.find.offset_of.Goals as goal

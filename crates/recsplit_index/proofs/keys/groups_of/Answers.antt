@@ -1,7 +1,6 @@
-use Rattle.std.proofs.Common.{◌<◌, length, take, arith}
-use Rattle.recsplit_index.specs.declared.keys.HashedKey.{HashedKey}
+use Rattle.std.proofs.Common.{take, arith}
 use Rattle.recsplit_index.specs.Index.{bucket_keys}
-use Rattle.recsplit_index.proofs.KeyLists.{grouped_none, empty_more, grouped_begin, grouped_more, grouped_all, grouped_length}
+use Rattle.recsplit_index.proofs.KeyLists.{empty_more, grouped_more, grouped_all, grouped_length}
 use Rattle.recsplit_index.proofs.keys.groups_of.Goals as goal
 
 pub put_in_group-requires : goal.put_in_group-requires

@@ -1,4 +1,4 @@
-use Rattle.std.proofs.Common.{List, Vec, Global, [], ◌∷◌, ◌++◌, ap, ◌∙◌}
+use Rattle.std.proofs.Common.{Vec, Global, [], ◌∷◌, ◌++◌, ap, ◌∙◌}
 use Rattle.recsplit_index.specs.declared.keys.HashedKey.{HashedKey}
 use Rattle.recsplit_index.proofs.KeyLists.{group_put}
 use Rattle.recsplit_index.proofs.keys.put_in_group.Goals as goal

@@ -1,7 +1,7 @@
-use Rattle.std.proofs.Common.{◌≡◌, ◌++◌, ◌+◌, ◌-◌, ◌<◌, ◌≤◌, Bool, subst, ℕ, true, false, not, length, ap, sym, ◌∙◌, arith}
+use Rattle.std.proofs.Common.{◌++◌, ◌+◌, ◌-◌, ◌<◌, ◌≤◌, Bool, subst, ℕ, length, ap, sym, ◌∙◌, arith}
 use Rattle.std.proofs.lemmas.Result.{IfOk-weaker}
 use Rattle.bit_store.specs.Rice.{rice_code}
-use Rattle.recsplit_index.specs.Nodes.{left_of, node, PutsNode}
+use Rattle.recsplit_index.specs.Nodes.{node, PutsNode}
 use Rattle.recsplit_index.proofs.Placements.{puts_node_leaf, puts_no_split, puts_no_left, puts_split, left_some, left_length, both_lengths}
 use Rattle.recsplit_index.proofs.nodes.+put_node.Goals as goal
 

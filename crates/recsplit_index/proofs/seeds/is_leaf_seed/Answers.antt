@@ -1,7 +1,7 @@
-use Rattle.std.proofs.Common.{◌≡◌, ◌+◌, ◌<◌, List, [], Bool, ℕ, true, length, map, subst, slice_set, ◌∷◌, drop, sym, ◌∙◌, arith}
+use Rattle.std.proofs.Common.{◌≡◌, ◌+◌, List, [], ℕ, length, map, subst, drop, arith}
 use Rattle.recsplit_index.specs.declared.keys.HashedKey.{HashedKey}
 use Rattle.std.proofs.lemmas.List.{drop_all}
-use Rattle.recsplit_index.specs.Nodes.{is_leaf_seed, place_under, all_differ}
+use Rattle.recsplit_index.specs.Nodes.{is_leaf_seed, place_under}
 use Rattle.recsplit_index.proofs.Leaves.{AreMarked, taken_twice, taken_once, none_left, next_position}
 use Rattle.recsplit_index.proofs.seeds.is_leaf_seed.Goals as goal
 

@@ -1,4 +1,4 @@
-use Rattle.std.proofs.Common.{take, ◌∷◌, [], ◌++◌, ap, List, ℕ, sym, ◌∙◌, take_all}
+use Rattle.std.proofs.Common.{take, ◌++◌, ap, List, ℕ, sym, ◌∙◌}
 use Rattle.std.specs.Prelude.{slice_index}
 use Rattle.std.proofs.lemmas.List.{take_more}
 use Rattle.recsplit_index.specs.Spelling.{number_bytes}

@@ -1,5 +1,4 @@
-use Rattle.std.proofs.Common.{ℕ, ◌+◌, ◌-◌, ◌<◌, arith, refl}
-use Rattle.recsplit_index.specs.Nodes.{left_of}
+use Rattle.std.proofs.Common.{◌+◌, ◌-◌, arith, refl}
 use Rattle.recsplit_index.proofs.Placements.{left_some}
 use Rattle.recsplit_index.proofs.Walkings.{skip_few, skip_leaf, skip_split, left_there, right_there}
 use Rattle.recsplit_index.proofs.walk.+skip.Goals as goal

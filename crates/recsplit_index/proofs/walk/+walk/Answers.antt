@@ -1,4 +1,4 @@
-use Rattle.std.proofs.Common.{ℕ, Option, Some, ◌+◌, ◌-◌, ◌<◌, arith, refl, subst}
+use Rattle.std.proofs.Common.{ℕ, Option, Some, ◌+◌, ◌-◌, arith, refl, subst}
 use Rattle.recsplit_index.proofs.Placements.{left_some}
 use Rattle.recsplit_index.proofs.Walkings.{Leads, walk_one, walk_leaf, walk_left, walk_right, seed_there, seed_some, seed_small, left_there, right_there, leads_some, slot_below}
 use Rattle.recsplit_index.proofs.walk.+walk.Goals as goal

@@ -1,4 +1,4 @@
-use Rattle.std.proofs.Common.{◌≡◌, ℕ, ◌*◌, ap, sym, ◌∙◌}
+use Rattle.std.proofs.Common.{ℕ, ◌*◌, ap, sym, ◌∙◌}
 use Rattle.std.proofs.lemmas.Bool.{false≢true}
 use Rattle.recsplit_index.specs.Hash.{key_hash}
 use Rattle.recsplit_index.specs.Keys.{hashed_keys, IsNoKey}
