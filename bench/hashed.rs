@@ -27,7 +27,7 @@ fn main() {
     let count = std::env::args().nth(2).expect("a count").parse().expect("a number");
     let bytes = written(count);
     assert!(keys(&bytes).zip(keys(&bytes).skip(1)).all(|(one, next)| one.0 < next.0));
-    if part == "pairs" {
+    if part == "hashed_pairs" {
         return println!("{}", bytes.len());
     }
     let map: HashMap<Vec<u8>, u64> = keys(&bytes).map(|(key, at)| (key.to_vec(), at)).collect();

@@ -169,7 +169,7 @@ last_where-put_in-other-by p c d ds true e h =
     ap (λ t. option_or (last_where p (d ∷ ds)) (cond t (Some c) None)) e ∙ option_or-none (last_where p (d ∷ ds))
 last_where-put_in-other-by p c d ds false e h = ap (λ o. option_or o (cond (p d) (Some d) None)) h
 
-last_where-put_in-other : (p : Change → Bool) (c : Change) (ds : List Change) → p c ≡ false → last_where p (put_in c ds) ≡ last_where p ds
+pub last_where-put_in-other : (p : Change → Bool) (c : Change) (ds : List Change) → p c ≡ false → last_where p (put_in c ds) ≡ last_where p ds
 last_where-put_in-other p c [] e = ap (λ t. option_or None (cond t (Some c) None)) e
 last_where-put_in-other p c (d ∷ ds) e =
     last_where-put_in-other-by p c d ds (is_before (place_of c) (place_of d)) e (last_where-put_in-other p c ds e)
@@ -181,7 +181,7 @@ before-behind-by p q r false e h g =
     cc
 
 -- p is before what is not before q, if it is before q
-before-behind : (p q r : Place) → is_before p q ≡ true → is_before r q ≡ false → is_before p r ≡ true
+pub before-behind : (p q r : Place) → is_before p q ≡ true → is_before r q ≡ false → is_before p r ≡ true
 before-behind p q r h g = before-behind-by p q r (is_before p r) refl h g
 
 later-before : (c : Change) (o : Option Change) → IfSome o (λ d. is_before (place_of c) (place_of d) ≡ true) → option_or o (Some c) ≡ later c o

@@ -108,11 +108,12 @@ module _ (e : Entity) (k : List ℕ) (n : ℕ) where
   late-by d true h = le-ltb d.tx n h
   late-by d false h = refl
 
-  late : (d : Change) → n ≤ d.tx → is_of_before e k n d ≡ false
+  pub late : (d : Change) → n ≤ d.tx → is_of_before e k n d ≡ false
   unfolding is_of_before
   late d h = late-by d (is_of e k d) h
 
-  none_late : (ds : List Change) → All (λ d. n ≤ d.tx) ds → last_where (is_of_before e k n) ds ≡ None
+  -- none of them is before the number
+  pub none_late : (ds : List Change) → All (λ d. n ≤ d.tx) ds → last_where (is_of_before e k n) ds ≡ None
   none_late [] all = refl
   none_late (d ∷ ds) all =
       ap (λ o. option_or o (cond (is_of_before e k n d) (Some d) None)) (none_late ds (All-tail (λ d. n ≤ d.tx) d ds all))

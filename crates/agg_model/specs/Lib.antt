@@ -3,10 +3,17 @@ pub mod ArrangedLaws
 pub mod Batch
 pub mod BatchRefusals
 pub mod ChangeList
+pub mod Contents
+pub mod ContentsLaws
+pub mod CoverageLaws
 pub mod Entity
 pub mod GrownLaws
+pub mod LastChanges
+pub mod LastChangesLaws
 pub mod Merged
 pub mod MergedLaws
 pub mod Spot
+pub mod Pairs
 pub mod Place
 pub mod PlaceOrder
+pub mod Worked

@@ -4,12 +4,14 @@
 
 mod change;
 mod check;
+mod contents;
 mod entity;
 mod look_up;
 mod merge;
 
 pub use change::{Act, Batch, Change, StepRows};
 pub use check::{BatchError, check_batch, content};
+pub use contents::{Before, Befores, Lists, Pair, Pairs, Times, contents_laws, coverage_laws};
 pub use entity::{Entity, FileKind, Range};
 pub use look_up::{arranged_laws, look_up_law, plain_value_at};
 pub use merge::{grown_laws, merge_repeats, merged_laws};

@@ -1,3 +1,7 @@
+ghost use Rattle.std.specs.Prelude.{◌≡◌, [], ◌∷◌};
+ghost use Rattle.agg_model.specs.Contents.{kv_contents, v_contents, ef_contents};
+ghost use Rattle.agg_model.specs.Worked.{worked};
+
 use super::*;
 use agg_outside::{Bytes, ListOf, Memory};
 use std::alloc::Global;
@@ -92,3 +96,14 @@ fn entities_have_numbers_and_names(rt: HostRuntime) -> Result<(), Fail> {
     assert!(rt; Entity::of_name(b"Accounts") == None);
     Ok(())
 }
+
+// What files hold of `worked`, in steps of size 4.
+fn contents_of_two_steps()
+    ensures kv_first { kv_contents 4 worked Entity.Accounts 0 1 ≡ record { key = 170 ∷ []; value = 1 ∷ [] } ∷ [] }
+    ensures kv_second { kv_contents 4 worked Entity.Accounts 1 2 ≡ record { key = 170 ∷ []; value = [] } ∷ record { key = 187 ∷ []; value = 3 ∷ [] } ∷ [] }
+    // From step 0 on a deleted key is left out.
+    ensures kv_both { kv_contents 4 worked Entity.Accounts 0 2 ≡ record { key = 187 ∷ []; value = 3 ∷ [] } ∷ [] }
+    ensures v_second { v_contents 4 worked Entity.Accounts 1 2 ≡
+        record { key = 170 ∷ []; tx = 5; value = 1 ∷ [] } ∷ record { key = 170 ∷ []; tx = 7; value = 2 ∷ [] } ∷ record { key = 187 ∷ []; tx = 6; value = [] } ∷ [] }
+    ensures ef_second { ef_contents 4 worked Entity.Accounts 1 2 ≡ record { key = 170 ∷ []; items = 5 ∷ 7 ∷ [] } ∷ record { key = 187 ∷ []; items = 6 ∷ [] } ∷ [] }
+{}

@@ -4,5 +4,7 @@ pub mod StoreLaws
 pub mod SessionLaws
 pub mod LineLaws
 pub mod ServingLaws
+pub mod StoppingLaws
 pub mod TakingLaws
+pub mod CommandLaws
 pub mod TopLaws

@@ -1,5 +1,5 @@
 -- Laws of a text that comes in pieces and of what was written.
-use Rattle.std.proofs.Common.{◌≡◌, ℕ, ◌+◌, ◌-◌, ◌<◌, ◌≤◌, Bool, true, false, List, [], ◌∷◌, ◌++◌, length, take, drop, Option, Some, None, IfSome, IfNone, is_some, cond, append_assoc, append-nil, ltb, get_or, refl, ap, subst, sym, ◌∙◌, arith}
+use Rattle.std.proofs.Common.{◌≡◌, ℕ, ◌+◌, ◌-◌, ◌<◌, ◌≤◌, Bool, true, false, List, [], ◌∷◌, ◌++◌, length, take, drop, Option, Some, None, IfSome, IfNone, is_some, cond, append_assoc, append-nil, ltb, get_or, refl, ap, subst, sym, ◌∙◌, arith, map, eqb, suc, length-append}
 use Rattle.std.proofs.Math.Seq.{take-add}
 use Rattle.std.proofs.lemmas.Grind.{common_steps}
 use Rattle.std.proofs.lemmas.List.{length-drop, get_or-take}
@@ -10,13 +10,14 @@ use Rattle.std.specs.List.{position_or_len}
 use Rattle.std.specs.List.{position}
 use Rattle.std.specs.Option.{ForSome, option_to_list}
 use Rattle.agg_outside.specs.Rows.{Held}
-use Rattle.line_words.specs.LineCut.{Uncut, Piece, is_feed, cut_at, next_cut, rest_cut, pieces_of}
-use Rattle.line_words.proofs.Pieces.{next_cut-lines, rest_cut-lines}
+use Rattle.line_words.specs.Lines.{lines_from}
+use Rattle.line_words.specs.LineCut.{Uncut, Piece, is_feed, piece_of, cut_at, next_cut, rest_cut, pieces_of}
+use Rattle.line_words.proofs.Pieces.{next_cut-lines, next_cut-feed, rest_cut-lines}
 use Rattle.agg_session.specs.declared.limits.Limits.{Limits}
 use Rattle.agg_session.specs.declared.session.Session.{Session}
 use Rattle.agg_session.specs.declared.served.Served.{Served}
 use Rattle.agg_session.specs.State.{State}
-use Rattle.agg_session.specs.Answer.{Step, step, replies, state_after, joined}
+use Rattle.agg_session.specs.Answer.{step, replies, state_after, joined, but_last, ended_lines}
 use Rattle.agg_session.specs.Running.{Stands, Steps}
 use Rattle.agg_session.specs.Served.{IsServed, IsAnswered, HasAnswered}
 
@@ -88,62 +89,135 @@ next_cut-none uncut none =
     ap (position is_feed) left ∙ position-take-by (uncut.limit + 1) uncut.left (position is_feed (take (uncut.limit + 1) uncut.left)) refl nowhere in
     ap (λ p. (cut_at uncut.limit (cut_at uncut.limit uncut.left (position is_feed uncut.left)).1 p).0) still
 
--- ---- replies so far
+-- ---- lines one after another
 
 joined-append : (texts : List (List ℕ)) (text : List ℕ) → joined (texts ++ text ∷ []) ≡ joined texts ++ text
 joined-append [] text = append-nil text
 joined-append (t ∷ texts) text = ap (λ rest. t ++ rest) (joined-append texts text) ∙ sym (append_assoc t (joined texts) text)
 
+next_number : (n count : ℕ) → n + suc count ≡ (n + 1) + count
+next_number n count = omega arith
+
+state_after-one : (limits : Limits) (n : ℕ) (lines : List Piece) (p : Piece) (s : State) → state_after limits n (lines ++ p ∷ []) s ≡ (step limits (n + length lines) p (state_after limits n lines s)).state
+state_after-one limits n [] p s = ap (λ k. (step limits k p s).state) (plus_none n)
+  where
+    plus_none : (k : ℕ) → k ≡ k + 0
+    plus_none k = omega arith
+state_after-one limits n (q ∷ lines) p s =
+    let d : State = (step limits n q s).state in
+    state_after-one limits (n + 1) lines p d
+    ∙ ap (λ k. (step limits k p (state_after limits (n + 1) lines d)).state) (sym (next_number n (length lines)))
+
+replies-one : (limits : Limits) (n : ℕ) (lines : List Piece) (p : Piece) (s : State) → replies limits n (lines ++ p ∷ []) s ≡ replies limits n lines s ++ (step limits (n + length lines) p (state_after limits n lines s)).reply ∷ []
+replies-one limits n [] p s = ap (λ k. (step limits k p s).reply ∷ []) (plus_none n)
+  where
+    plus_none : (k : ℕ) → k ≡ k + 0
+    plus_none k = omega arith
+replies-one limits n (q ∷ lines) p s =
+    let d : State = (step limits n q s).state in
+    ap (λ (rs : List (List ℕ)). (step limits n q s).reply ∷ rs)
+    (replies-one limits (n + 1) lines p d
+    ∙ ap (λ k. replies limits (n + 1) lines d ++ (step limits k p (state_after limits (n + 1) lines d)).reply ∷ []) (sym (next_number n (length lines))))
+
+-- ---- the lines that have their line feed
+
+but_last-append : {A : Type 0} (xs : List A) (y : A) (ys : List A) → but_last (xs ++ y ∷ ys) ≡ xs ++ but_last (y ∷ ys)
+but_last-append [] y ys = refl
+but_last-append (x ∷ []) y ys = refl
+but_last-append (x ∷ z ∷ xs) y ys = ap (λ rest. x ∷ rest) (but_last-append (z ∷ xs) y ys)
+
+-- a line that has its line feed is the first of some
+record HasFirst (limit : ℕ) (lines : List (List ℕ)) : Type 0 where
+  pub first : Piece
+  pub others : List Piece
+  pub are : map (piece_of limit) lines ≡ first ∷ others
+
+has_first-by : (limit b : ℕ) (carry : List ℕ) (later : List (List ℕ)) (more : List (List ℕ)) (t : Bool) → HasFirst limit more → HasFirst limit (cond t (carry ∷ later) more)
+has_first-by limit b carry later more true some = record { first = piece_of limit carry; others = map (piece_of limit) later; are = refl }
+has_first-by limit b carry later more false some = some
+
+has_first : (limit : ℕ) (text carry : List ℕ) → HasFirst limit (lines_from carry (text ++ 10 ∷ []))
+has_first limit [] carry = record { first = piece_of limit carry; others = []; are = refl }
+has_first limit (b ∷ text) carry =
+    has_first-by limit b carry (lines_from [] (text ++ 10 ∷ [])) (lines_from (carry ++ b ∷ []) (text ++ 10 ∷ [])) (eqb b 10) (has_first limit text (carry ++ b ∷ []))
+
+-- Where lines go before those of what is left, however the text goes on, they go before its ended lines.
+pub ended_lines-split : (limit : ℕ) (text left : List ℕ) (lines : List Piece) → ((later : List ℕ) → pieces_of limit (text ++ later) ≡ lines ++ pieces_of limit (left ++ later)) → ended_lines limit text ≡ lines ++ ended_lines limit left
+ended_lines-split limit text left lines cuts =
+    let some : HasFirst limit (lines_from [] (left ++ 10 ∷ [])) = has_first limit left [] in
+    ap but_last (cuts (10 ∷ []))
+    ∙ ap (λ (ps : List Piece). but_last (lines ++ ps)) some.are
+    ∙ but_last-append lines some.first some.others
+    ∙ ap (λ (ps : List Piece). lines ++ but_last ps) (sym some.are)
+
+-- once nothing can be cut off, no line has its line feed
+pub ended_lines-none : (limit : ℕ) (uncut : Uncut) → uncut.limit ≡ limit → (next_cut uncut).0 ≡ None → ended_lines limit uncut.left ≡ []
+ended_lines-none limit uncut is none =
+    subst (λ n. ended_lines n uncut.left ≡ []) is (ap but_last (next_cut-feed uncut none))
+
+-- ---- what a cutting gives
+
+-- nothing was cut off: the lines of what is left stay
+left_same : (limit : ℕ) (cut new : Uncut) → cut.limit ≡ limit → new ≡ record cut { left = (next_cut cut).1 } → (next_cut cut).0 ≡ None → (later : List ℕ) → pieces_of limit (cut.left ++ later) ≡ pieces_of limit (new.left ++ later)
+left_same limit cut new is cut_is none later =
+    subst (λ n. pieces_of n (cut.left ++ later) ≡ pieces_of n (new.left ++ later)) is
+    (next_cut-lines cut later
+    ∙ ap (λ (o : Option Piece). option_to_list o ++ pieces_of cut.limit ((next_cut cut).1 ++ later)) none
+    ∙ ap (λ (u : Uncut). pieces_of cut.limit (u.left ++ later)) (sym cut_is))
+
+-- a line was cut off: it is the first of what was left
+pub left_less : (limit : ℕ) (cut new : Uncut) (p : Piece) → cut.limit ≡ limit → new ≡ record cut { left = (next_cut cut).1 } → (next_cut cut).0 ≡ Some p → (later : List ℕ) → pieces_of limit (cut.left ++ later) ≡ p ∷ pieces_of limit (new.left ++ later)
+left_less limit cut new p is cut_is some later =
+    subst (λ n. pieces_of n (cut.left ++ later) ≡ p ∷ pieces_of n (new.left ++ later)) is
+    (next_cut-lines cut later
+    ∙ ap (λ (o : Option Piece). option_to_list o ++ pieces_of cut.limit ((next_cut cut).1 ++ later)) some
+    ∙ ap (λ (u : Uncut). p ∷ pieces_of cut.limit (u.left ++ later)) (sym cut_is))
+
+-- ---- what is answered
+
+-- one more line is answered, and its reply written
+module _ {K : Type 0} (held : K → Option Held) (limits : Limits) (session after : Session K) (first out now : Option (List ℕ)) (start : State) (lines : List Piece) (p : Piece) (number : ℕ) (reply : List ℕ) where
+  pub answered_one : number ≡ length lines → (all : HasAnswered held limits session first out start lines) → Steps held after reply (step limits (number + 1) p (state_after limits 1 lines start)) → ForSome out (λ b. now ≡ Some (b ++ reply)) → HasAnswered held limits after first now start (lines ++ p ∷ [])
+  answered_one count all steps put =
+      let s : State = state_after limits 1 lines start in
+      let at : number + 1 ≡ 1 + length lines = omega (arith, count) in
+      let told : reply ≡ (step limits (1 + length lines) p s).reply = steps.told ∙ ap (λ n. (step limits n p s).reply) at in
+      record {
+        stands = subst (Stands held after) (ap (λ n. (step limits n p s).state) at ∙ sym (state_after-one limits 1 lines p start)) steps.stands;
+        written = λ before is.
+            put (before ++ joined (replies limits 1 lines start)) (all.written before is)
+            ∙ ap Some
+            (append_assoc before (joined (replies limits 1 lines start)) reply
+            ∙ ap (λ rest. before ++ rest)
+            (sym (joined-append (replies limits 1 lines start) reply)
+            ∙ ap (λ r. joined (replies limits 1 lines start ++ r ∷ [])) told
+            ∙ ap joined (sym (replies-one limits 1 lines p start))));
+      }
+
 -- nothing was cut off: what was answered stays so
-pub answered_same : {K : Type 0} (held : K → Option Held) (limits : Limits) (old new : Served K) (out : Option (List ℕ)) (start : State) (text before : List ℕ) → IsServed held limits old → new.cut ≡ record old.cut { left = (next_cut old.cut).1 } → (next_cut old.cut).0 ≡ None → new.session ≡ old.session → new.lines ≡ old.lines → IsAnswered held limits old out start text before → IsAnswered held limits new out start text before
-answered_same held limits old new out start text before served cut none session lines all =
-    let left : new.cut.left ≡ (next_cut old.cut).1 = ap (λ (u : Uncut). u.left) cut in
-    let pieces : (later : List ℕ) → pieces_of limits.line (old.cut.left ++ later) ≡ pieces_of limits.line (new.cut.left ++ later) = λ later.
-    subst (λ n. pieces_of n (old.cut.left ++ later) ≡ pieces_of n (new.cut.left ++ later)) served.limit
-    (next_cut-lines old.cut later
-    ∙ ap (λ (o : Option Piece). option_to_list o ++ pieces_of old.cut.limit ((next_cut old.cut).1 ++ later)) none
-    ∙ ap (λ (l : List ℕ). pieces_of old.cut.limit (l ++ later)) (sym left)) in
-    record {
-      state = all.state;
-      done = all.done;
-      stands = subst (λ (s : Session _). Stands held s all.state) (sym session) all.stands;
-      written = all.written;
-      owed = λ later. all.owed later ∙ (λ i. all.done ++ replies limits (sym lines i + 1) (pieces later i) all.state);
-      then = λ later. all.then later ∙ (λ i. state_after limits (sym lines i + 1) (pieces later i) all.state);
-    }
+pub answered_same : {K : Type 0} (held : K → Option Held) (limits : Limits) (old new : Served K) (first out : Option (List ℕ)) (start : State) (text : List ℕ) → IsServed held limits old → new.cut ≡ record old.cut { left = (next_cut old.cut).1 } → (next_cut old.cut).0 ≡ None → new.session ≡ old.session → new.lines ≡ old.lines → IsAnswered held limits old first out start text → IsAnswered held limits new first out start text
+answered_same held limits old new first out start text served cut none session lines all = record {
+  lines = all.lines;
+  cuts = λ later. all.cuts later ∙ ap (λ (ps : List Piece). all.lines ++ ps) (left_same limits.line old.cut new.cut served.limit cut none later);
+  count = lines ∙ all.count;
+  all = subst (λ (s : Session _). HasAnswered held limits s first out start all.lines) (sym session) all.all;
+}
+
+answered_more-by : {K : Type 0} (held : K → Option Held) (limits : Limits) (old new : Served K) (o : Option Piece) (reply : List ℕ) (first out now : Option (List ℕ)) (start : State) (text : List ℕ) → IsServed held limits old → new.cut ≡ record old.cut { left = (next_cut old.cut).1 } → (next_cut old.cut).0 ≡ o → true ≡ is_some o → new.lines ≡ old.lines + 1 → (all : IsAnswered held limits old first out start text) → IfSome o (λ piece. Steps held new.session reply (step limits (old.lines + 1) piece (state_after limits 1 all.lines start))) → ForSome out (λ b. now ≡ Some (b ++ reply)) → IsAnswered held limits new first now start text
+answered_more-by held limits old new None reply first out now start text served cut is some lines all steps put = cc
+answered_more-by held limits old new (Some p) reply first out now start text served cut is some lines all steps put = record {
+  lines = all.lines ++ p ∷ [];
+  cuts = λ later.
+      all.cuts later ∙ ap (λ (ps : List Piece). all.lines ++ ps) (left_less limits.line old.cut new.cut p served.limit cut is later)
+      ∙ sym (append_assoc all.lines (p ∷ []) (pieces_of limits.line (new.cut.left ++ later)));
+  count = omega (arith, lines, all.count, length-append all.lines (p ∷ []));
+  all = answered_one held limits old.session new.session first out now start all.lines p old.lines reply all.count all.all steps put;
+}
 
 -- a line was cut off and its reply written
-answered_more-by : {K : Type 0} (held : K → Option Held) (limits : Limits) (old new : Served K) (o : Option Piece) (reply : List ℕ) (out now : Option (List ℕ)) (start : State) (text before : List ℕ) → IsServed held limits old → new.cut ≡ record old.cut { left = (next_cut old.cut).1 } → (next_cut old.cut).0 ≡ o → true ≡ is_some o → new.lines ≡ old.lines + 1 → (all : IsAnswered held limits old out start text before) → IfSome o (λ piece. Steps held new.session reply (step limits (old.lines + 1) piece all.state)) → ForSome out (λ b. now ≡ Some (b ++ reply)) → IsAnswered held limits new now start text before
-answered_more-by held limits old new None reply out now start text before served cut is some lines all steps put = cc
-answered_more-by held limits old new (Some p) reply out now start text before served cut is some lines all steps put =
-    let left : new.cut.left ≡ (next_cut old.cut).1 = ap (λ (u : Uncut). u.left) cut in
-    let pieces : (later : List ℕ) → pieces_of limits.line (old.cut.left ++ later) ≡ p ∷ pieces_of limits.line (new.cut.left ++ later) = λ later.
-    subst (λ n. pieces_of n (old.cut.left ++ later) ≡ p ∷ pieces_of n (new.cut.left ++ later)) served.limit
-    (next_cut-lines old.cut later
-    ∙ ap (λ (o : Option Piece). option_to_list o ++ pieces_of old.cut.limit ((next_cut old.cut).1 ++ later)) is
-    ∙ ap (λ (l : List ℕ). p ∷ pieces_of old.cut.limit (l ++ later)) (sym left)) in
-    let d : Step = step limits (old.lines + 1) p all.state in
-    record {
-      state = d.state;
-      done = all.done ++ reply ∷ [];
-      stands = steps.stands;
-      written = put (before ++ joined all.done) all.written
-          ∙ ap Some (append_assoc before (joined all.done) reply ∙ ap (λ rest. before ++ rest) (sym (joined-append all.done reply)));
-      owed = λ later.
-          all.owed later
-          ∙ ap (λ (ps : List Piece). all.done ++ replies limits (old.lines + 1) ps all.state) (pieces later)
-          ∙ ap (λ (r : List ℕ). all.done ++ r ∷ replies limits (old.lines + 1 + 1) (pieces_of limits.line (new.cut.left ++ later)) d.state) (sym steps.told)
-          ∙ sym (append_assoc all.done (reply ∷ []) (replies limits (old.lines + 1 + 1) (pieces_of limits.line (new.cut.left ++ later)) d.state))
-          ∙ ap (λ n. (all.done ++ reply ∷ []) ++ replies limits (n + 1) (pieces_of limits.line (new.cut.left ++ later)) d.state) (sym lines);
-      then = λ later.
-          all.then later
-          ∙ ap (λ (ps : List Piece). state_after limits (old.lines + 1) ps all.state) (pieces later)
-          ∙ ap (λ n. state_after limits (n + 1) (pieces_of limits.line (new.cut.left ++ later)) d.state) (sym lines);
-    }
-
-pub answered_more : {K : Type 0} (held : K → Option Held) (limits : Limits) (old new : Served K) (reply : List ℕ) (out now : Option (List ℕ)) (start : State) (text before : List ℕ) → IsServed held limits old → new.cut ≡ record old.cut { left = (next_cut old.cut).1 } → true ≡ is_some (next_cut old.cut).0 → new.lines ≡ old.lines + 1 → ((s : State) → Stands held old.session s → IfSome (next_cut old.cut).0 (λ piece. Steps held new.session reply (step limits (old.lines + 1) piece s))) → ForSome out (λ b. now ≡ Some (b ++ reply)) → IsAnswered held limits old out start text before → IsAnswered held limits new now start text before
-answered_more held limits old new reply out now start text before served cut some lines exact put all =
-    answered_more-by held limits old new (next_cut old.cut).0 reply out now start text before served cut refl some lines all (exact all.state all.stands) put
+pub answered_more : {K : Type 0} (held : K → Option Held) (limits : Limits) (old new : Served K) (reply : List ℕ) (first out now : Option (List ℕ)) (start : State) (text : List ℕ) → IsServed held limits old → new.cut ≡ record old.cut { left = (next_cut old.cut).1 } → true ≡ is_some (next_cut old.cut).0 → new.lines ≡ old.lines + 1 → ((s : State) → Stands held old.session s → IfSome (next_cut old.cut).0 (λ piece. Steps held new.session reply (step limits (old.lines + 1) piece s))) → ForSome out (λ b. now ≡ Some (b ++ reply)) → IsAnswered held limits old first out start text → IsAnswered held limits new first now start text
+answered_more held limits old new reply first out now start text served cut some lines exact put all =
+    answered_more-by held limits old new (next_cut old.cut).0 reply first out now start text served cut refl some lines all (exact (state_after limits 1 all.lines start) all.all.stands) put
 
 pub none_there : {A : Type 0} (o : Option A) → false ≡ is_some o → o ≡ None
 none_there None e = refl
@@ -157,72 +231,51 @@ pub if_some : {A : Type 0} (o : Option A) (P : A → Type 0) (x : A) → o ≡ S
 if_some None P x e h = cc
 if_some (Some y) P x e h = let same : y ≡ x = cc in subst P same h
 
--- ---- the last line
-
-finished_none : {K : Type 0} (held : K → Option Held) (limits : Limits) (old new : Served K) (out : Option (List ℕ)) (start : State) (text before : List ℕ) → IsServed held limits old → (next_cut old.cut).0 ≡ None → rest_cut old.cut ≡ None → new.session ≡ old.session → IsAnswered held limits old out start text before → HasAnswered held limits new out start text before
-finished_none held limits old new out start text before served none rest session all =
-    let pieces : pieces_of limits.line (old.cut.left ++ []) ≡ [] =
-    ap (pieces_of limits.line) (append-nil old.cut.left)
-    ∙ subst (λ n. pieces_of n old.cut.left ≡ []) served.limit (rest_cut-lines old.cut none ∙ ap option_to_list rest) in
-    let whole : replies limits 1 (pieces_of limits.line text) start ≡ all.done =
-    ap (λ t. replies limits 1 (pieces_of limits.line t) start) (sym (append-nil text)) ∙ all.owed []
-    ∙ ap (λ (ps : List Piece). all.done ++ replies limits (old.lines + 1) ps all.state) pieces ∙ append-nil all.done in
-    let state : state_after limits 1 (pieces_of limits.line text) start ≡ all.state =
-    ap (λ t. state_after limits 1 (pieces_of limits.line t) start) (sym (append-nil text)) ∙ all.then []
-    ∙ ap (λ (ps : List Piece). state_after limits (old.lines + 1) ps all.state) pieces in
-    record {
-      written = all.written ∙ ap (λ d. Some (before ++ joined d)) (sym whole);
-      stands = subst (λ (s : Session _). Stands held s (state_after limits 1 (pieces_of limits.line text) start)) (sym session)
-          (subst (Stands held old.session) (sym state) all.stands);
-    }
-
-pub finished_same : {K : Type 0} (held : K → Option Held) (limits : Limits) (old new : Served K) (out : Option (List ℕ)) (start : State) (text before : List ℕ) → IsServed held limits old → (next_cut old.cut).0 ≡ None → false ≡ is_some (rest_cut old.cut) → new.session ≡ old.session → IsAnswered held limits old out start text before → HasAnswered held limits new out start text before
-finished_same held limits old new out start text before served none rest session all =
-    finished_none held limits old new out start text before served none (none_there (rest_cut old.cut) rest) session all
-
-finished_more-by : {K : Type 0} (held : K → Option Held) (limits : Limits) (old new : Served K) (o : Option Piece) (reply : List ℕ) (out now : Option (List ℕ)) (start : State) (text before : List ℕ) → IsServed held limits old → (next_cut old.cut).0 ≡ None → rest_cut old.cut ≡ o → true ≡ is_some o → (all : IsAnswered held limits old out start text before) → IfSome o (λ piece. Steps held new.session reply (step limits (old.lines + 1) piece all.state)) → ForSome out (λ b. now ≡ Some (b ++ reply)) → HasAnswered held limits new now start text before
-finished_more-by held limits old new None reply out now start text before served none is some all steps put = cc
-finished_more-by held limits old new (Some p) reply out now start text before served none is some all steps put =
-    let pieces : pieces_of limits.line (old.cut.left ++ []) ≡ p ∷ [] =
-    ap (pieces_of limits.line) (append-nil old.cut.left)
-    ∙ subst (λ n. pieces_of n old.cut.left ≡ p ∷ []) served.limit (rest_cut-lines old.cut none ∙ ap option_to_list is) in
-    let d : Step = step limits (old.lines + 1) p all.state in
-    let whole : replies limits 1 (pieces_of limits.line text) start ≡ all.done ++ reply ∷ [] =
-    ap (λ t. replies limits 1 (pieces_of limits.line t) start) (sym (append-nil text)) ∙ all.owed []
-    ∙ ap (λ (ps : List Piece). all.done ++ replies limits (old.lines + 1) ps all.state) pieces
-    ∙ ap (λ (r : List ℕ). all.done ++ r ∷ []) (sym steps.told) in
-    let state : state_after limits 1 (pieces_of limits.line text) start ≡ d.state =
-    ap (λ t. state_after limits 1 (pieces_of limits.line t) start) (sym (append-nil text)) ∙ all.then []
-    ∙ ap (λ (ps : List Piece). state_after limits (old.lines + 1) ps all.state) pieces in
-    record {
-      written = put (before ++ joined all.done) all.written
-          ∙ ap Some (append_assoc before (joined all.done) reply ∙ ap (λ rest. before ++ rest) (sym (joined-append all.done reply)))
-          ∙ ap (λ r. Some (before ++ joined r)) (sym whole);
-      stands = subst (Stands held new.session) (sym state) steps.stands;
-    }
-
-pub finished_more : {K : Type 0} (held : K → Option Held) (limits : Limits) (old new : Served K) (reply : List ℕ) (out now : Option (List ℕ)) (start : State) (text before : List ℕ) → IsServed held limits old → (next_cut old.cut).0 ≡ None → true ≡ is_some (rest_cut old.cut) → ((s : State) → Stands held old.session s → IfSome (rest_cut old.cut) (λ piece. Steps held new.session reply (step limits (old.lines + 1) piece s))) → ForSome out (λ b. now ≡ Some (b ++ reply)) → IsAnswered held limits old out start text before → HasAnswered held limits new now start text before
-finished_more held limits old new reply out now start text before served none some exact put all =
-    finished_more-by held limits old new (rest_cut old.cut) reply out now start text before served none refl some all (exact all.state all.stands) put
-
 -- ---- a piece that came
 
-pub answered_pushed : {K : Type 0} (held : K → Option Held) (limits : Limits) (old new : Served K) (piece : List ℕ) (out : Option (List ℕ)) (start : State) (text before : List ℕ) → new.cut ≡ record old.cut { left = old.cut.left ++ piece } → new.session ≡ old.session → new.lines ≡ old.lines → IsAnswered held limits old out start text before → IsAnswered held limits new out start (text ++ piece) before
-answered_pushed held limits old new piece out start text before cut session lines all =
+pub answered_pushed : {K : Type 0} (held : K → Option Held) (limits : Limits) (old new : Served K) (piece : List ℕ) (first out : Option (List ℕ)) (start : State) (text : List ℕ) → new.cut ≡ record old.cut { left = old.cut.left ++ piece } → new.session ≡ old.session → new.lines ≡ old.lines → IsAnswered held limits old first out start text → IsAnswered held limits new first out start (text ++ piece)
+answered_pushed held limits old new piece first out start text cut session lines all =
     let left : new.cut.left ≡ old.cut.left ++ piece = ap (λ (u : Uncut). u.left) cut in
     let grown : (later : List ℕ) → old.cut.left ++ (piece ++ later) ≡ new.cut.left ++ later = λ later.
     sym (append_assoc old.cut.left piece later) ∙ ap (λ l. l ++ later) (sym left) in
     record {
-      state = all.state;
-      done = all.done;
-      stands = subst (λ (s : Session _). Stands held s all.state) (sym session) all.stands;
-      written = all.written;
-      owed = λ later.
-          ap (λ t. replies limits 1 (pieces_of limits.line t) start) (append_assoc text piece later)
-          ∙ all.owed (piece ++ later)
-          ∙ (λ i. all.done ++ replies limits (sym lines i + 1) (pieces_of limits.line (grown later i)) all.state);
-      then = λ later.
-          ap (λ t. state_after limits 1 (pieces_of limits.line t) start) (append_assoc text piece later)
-          ∙ all.then (piece ++ later)
-          ∙ (λ i. state_after limits (sym lines i + 1) (pieces_of limits.line (grown later i)) all.state);
+      lines = all.lines;
+      cuts = λ later.
+          ap (pieces_of limits.line) (append_assoc text piece later) ∙ all.cuts (piece ++ later)
+          ∙ ap (λ t. all.lines ++ pieces_of limits.line t) (grown later);
+      count = lines ∙ all.count;
+      all = subst (λ (s : Session _). HasAnswered held limits s first out start all.lines) (sym session) all.all;
     }
+
+-- ---- the last line
+
+-- the lines of a text that goes on no more
+pub whole_text : (limit : ℕ) (text left : List ℕ) (lines : List Piece) → ((later : List ℕ) → pieces_of limit (text ++ later) ≡ lines ++ pieces_of limit (left ++ later)) → pieces_of limit text ≡ lines ++ pieces_of limit left
+whole_text limit text left lines cuts =
+    ap (pieces_of limit) (sym (append-nil text)) ∙ cuts [] ∙ ap (λ t. lines ++ pieces_of limit t) (append-nil left)
+
+pub last_piece : (limit : ℕ) (cut : Uncut) (o : Option Piece) → cut.limit ≡ limit → (next_cut cut).0 ≡ None → rest_cut cut ≡ o → pieces_of limit cut.left ≡ option_to_list o
+last_piece limit cut o is none rest =
+    subst (λ n. pieces_of n cut.left ≡ option_to_list o) is (rest_cut-lines cut none ∙ ap option_to_list rest)
+
+pub finished_same : {K : Type 0} (held : K → Option Held) (limits : Limits) (old : Served K) (session : Session K) (first out : Option (List ℕ)) (start : State) (text : List ℕ) → IsServed held limits old → (next_cut old.cut).0 ≡ None → false ≡ is_some (rest_cut old.cut) → session ≡ old.session → IsAnswered held limits old first out start text → HasAnswered held limits session first out start (pieces_of limits.line text)
+finished_same held limits old session first out start text served none rest is all =
+    let whole : pieces_of limits.line text ≡ all.lines =
+    whole_text limits.line text old.cut.left all.lines all.cuts
+    ∙ ap (λ (ps : List Piece). all.lines ++ ps) (last_piece limits.line old.cut None served.limit none (none_there (rest_cut old.cut) rest))
+    ∙ append-nil all.lines in
+    subst (λ (ps : List Piece). HasAnswered held limits session first out start ps) (sym whole)
+    (subst (λ (s : Session _). HasAnswered held limits s first out start all.lines) (sym is) all.all)
+
+finished_more-by : {K : Type 0} (held : K → Option Held) (limits : Limits) (old : Served K) (session : Session K) (o : Option Piece) (reply : List ℕ) (first out now : Option (List ℕ)) (start : State) (text : List ℕ) → IsServed held limits old → (next_cut old.cut).0 ≡ None → rest_cut old.cut ≡ o → true ≡ is_some o → (all : IsAnswered held limits old first out start text) → IfSome o (λ piece. Steps held session reply (step limits (old.lines + 1) piece (state_after limits 1 all.lines start))) → ForSome out (λ b. now ≡ Some (b ++ reply)) → HasAnswered held limits session first now start (pieces_of limits.line text)
+finished_more-by held limits old session None reply first out now start text served none is some all steps put = cc
+finished_more-by held limits old session (Some p) reply first out now start text served none is some all steps put =
+    let whole : pieces_of limits.line text ≡ all.lines ++ p ∷ [] =
+    whole_text limits.line text old.cut.left all.lines all.cuts
+    ∙ ap (λ (ps : List Piece). all.lines ++ ps) (last_piece limits.line old.cut (Some p) served.limit none is) in
+    subst (λ (ps : List Piece). HasAnswered held limits session first now start ps) (sym whole)
+    (answered_one held limits old.session session first out now start all.lines p old.lines reply all.count all.all steps put)
+
+pub finished_more : {K : Type 0} (held : K → Option Held) (limits : Limits) (old : Served K) (session : Session K) (reply : List ℕ) (first out now : Option (List ℕ)) (start : State) (text : List ℕ) → IsServed held limits old → (next_cut old.cut).0 ≡ None → true ≡ is_some (rest_cut old.cut) → ((s : State) → Stands held old.session s → IfSome (rest_cut old.cut) (λ piece. Steps held session reply (step limits (old.lines + 1) piece s))) → ForSome out (λ b. now ≡ Some (b ++ reply)) → IsAnswered held limits old first out start text → HasAnswered held limits session first now start (pieces_of limits.line text)
+finished_more held limits old session reply first out now start text served none some exact put all =
+    finished_more-by held limits old session (rest_cut old.cut) reply first out now start text served none refl some all (exact (state_after limits 1 all.lines start) all.all.stands) put

@@ -1,5 +1,6 @@
 -- The replies of a session to a text, and the state after it.
-use Rattle.std.specs.Prelude.{◌≡◌, ◌⊎◌, ℕ, ◌+◌, List, [], ◌∷◌, ◌++◌, unwrap_or, Result, Ok, Err}
+use Rattle.std.specs.Prelude.{◌≡◌, ◌⊎◌, ℕ, ◌+◌, List, [], ◌∷◌, ◌++◌, length, Option, Some, unwrap_or, Result, Ok, Err}
+use Rattle.std.specs.Option.{ForSome}
 use Rattle.agg_model.specs.ChangeList.{ChangeList}
 use Rattle.line_words.specs.declared.request.Request.{Request}
 use Rattle.line_words.specs.declared.request.LineError.{LineError}
@@ -58,8 +59,37 @@ answer limits list text = joined (replies limits 1 (pieces_of limits.line text) 
 abbrev pub after : Limits → ChangeList → List ℕ → ChangeList
 after limits list text = (state_after limits 1 (pieces_of limits.line text) (starting list)).list
 
--- what was written is the first of the replies, and then a part of the next one
-abbrev pub IsPartway : List (List ℕ) → List ℕ → Type 0
-IsPartway [] out = out ≡ []
-IsPartway (reply ∷ rest) out =
-    ((more : List ℕ) × (reply ≡ out ++ more)) ⊎ ((behind : List ℕ) × (out ≡ reply ++ behind) × IsPartway rest behind)
+-- all but the last
+abbrev pub but_last : {A : Type 0} → List A → List A
+but_last [] = []
+but_last (x ∷ []) = []
+but_last (x ∷ y ∷ xs) = x ∷ but_last (y ∷ xs)
+
+-- the lines of a text that have their line feed: those of the text with one more, but for the last
+abbrev pub ended_lines : ℕ → List ℕ → List Piece
+ended_lines limit text = but_last (pieces_of limit (text ++ 10 ∷ []))
+
+-- the text begins with the part
+abbrev pub BeginsWith : List ℕ → List ℕ → Type 0
+BeginsWith part text = (more : List ℕ) × (text ≡ part ++ more)
+
+-- the first of the lines, which has the number, was not worked on; or it was, and the part is what
+-- was written of its reply
+abbrev pub IsBegun : Limits → ℕ → List Piece → State → List ℕ → ChangeList → Type 0
+IsBegun limits number [] s part list = (part ≡ []) × (list ≡ s.list)
+IsBegun limits number (line ∷ lines) s part list =
+    ((part ≡ []) × (list ≡ s.list))
+    ⊎ (BeginsWith part (step limits number line s).reply × (list ≡ (step limits number line s).state.list))
+
+-- Lines from a start on are answered up to somewhere: the first of them whole, the next one in part or
+-- not at all. What is written stands behind what the sink had at first, where it tells, and the list
+-- that was come to is kept.
+pub record IsPartway (limits : Limits) (start : State) (lines : List Piece) (first out : Option (List ℕ)) (IsKept : ChangeList → Type 0) : Type 0 where
+  pub answered : List Piece
+  pub rest : List Piece
+  pub lines_are : lines ≡ answered ++ rest
+  pub part : List ℕ
+  pub list : ChangeList
+  pub begun : IsBegun limits (length answered + 1) rest (state_after limits 1 answered start) part list
+  pub written : ForSome first (λ before. out ≡ Some ((before ++ joined (replies limits 1 answered start)) ++ part))
+  pub kept : IsKept list

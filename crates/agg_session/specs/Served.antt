@@ -1,56 +1,102 @@
 -- How far a text has been answered.
-use Rattle.std.specs.Prelude.{◌≡◌, ℕ, ◌+◌, ◌<◌, ◌≤◌, List, [], ◌++◌, length, drop, IfSome, Option, Some}
+use Rattle.std.specs.Prelude.{◌≡◌, ◌⊎◌, ℕ, ◌+◌, ◌<◌, ◌≤◌, List, [], ◌++◌, length, IsSomeAnd, Option, Some}
+use Rattle.std.specs.Option.{ForSome}
 use Rattle.agg_outside.specs.Rows.{Held}
-use Rattle.line_words.specs.LineCut.{pieces_of}
+use Rattle.line_words.specs.LineCut.{Piece, pieces_of}
 use Rattle.agg_session.specs.declared.limits.Limits.{Limits}
 use Rattle.agg_session.specs.declared.served.Served.{Served}
+use Rattle.agg_session.specs.declared.session.Session.{Session}
+use Rattle.agg_session.specs.declared.store.Store.{Store}
 use Rattle.agg_session.specs.State.{State}
-use Rattle.agg_session.specs.Answer.{replies, state_after, joined}
+use Rattle.agg_session.specs.Answer.{replies, state_after, joined, ended_lines, IsPartway}
 use Rattle.agg_session.specs.Running.{IsSession, Stands}
+use Rattle.agg_session.specs.Store.{Holds}
 
--- fewer lines were answered than there are transactions numbers to count with
+-- fewer transactions were opened than lines were answered, so that their numbers can be counted
 pub record IsServed {K : Type 0} (held : K → Option Held) (limits : Limits) (served : Served K) : Type 0 where
   pub session : IsSession held limits served.session
   pub limit : served.cut.limit ≡ limits.line
   pub opens : served.session.link.opens ≤ served.lines
 
--- Of a text that a session answers from a start, all lines up to here are answered: the replies so
--- far stand in the sink behind what it had, and those to what is left of the text, however it goes
--- on, are the replies to what the cut has left.
-pub record IsAnswered {K : Type 0} (held : K → Option Held) (limits : Limits) (served : Served K) (out : Option (List ℕ)) (start : State) (text before : List ℕ) : Type 0 where
-  pub state : State
-  pub done : List (List ℕ)
-  pub stands : Stands held served.session state
-  pub written : out ≡ Some (before ++ joined done)
-  pub owed : (later : List ℕ) → replies limits 1 (pieces_of limits.line (text ++ later)) start ≡ done ++ replies limits (served.lines + 1) (pieces_of limits.line (served.cut.left ++ later)) state
-  pub then : (later : List ℕ) → state_after limits 1 (pieces_of limits.line (text ++ later)) start ≡ state_after limits (served.lines + 1) (pieces_of limits.line (served.cut.left ++ later)) state
+-- The lines are answered from a start: their replies stand in the sink behind what it had at first,
+-- where it tells, and the session stands for the state after them.
+pub record HasAnswered {K : Type 0} (held : K → Option Held) (limits : Limits) (session : Session K) (first out : Option (List ℕ)) (start : State) (lines : List Piece) : Type 0 where
+  pub stands : Stands held session (state_after limits 1 lines start)
+  pub written : ForSome first (λ before. out ≡ Some (before ++ joined (replies limits 1 lines start)))
 
--- Of a whole text all lines are answered: what was written is the replies to it, and the session
--- stands for the state after it.
-pub record HasAnswered {K : Type 0} (held : K → Option Held) (limits : Limits) (served : Served K) (out : Option (List ℕ)) (start : State) (text before : List ℕ) : Type 0 where
-  pub written : out ≡ Some (before ++ joined (replies limits 1 (pieces_of limits.line text) start))
-  pub stands : Stands held served.session (state_after limits 1 (pieces_of limits.line text) start)
+-- Of a text that comes in pieces these lines are answered, and its others, however it goes on, are
+-- those of what the cut has left.
+pub record IsAnswered {K : Type 0} (held : K → Option Held) (limits : Limits) (served : Served K) (first out : Option (List ℕ)) (start : State) (text : List ℕ) : Type 0 where
+  pub lines : List Piece
+  pub cuts : (later : List ℕ) → pieces_of limits.line (text ++ later) ≡ lines ++ pieces_of limits.line (served.cut.left ++ later)
+  pub count : served.lines ≡ length lines
+  pub all : HasAnswered held limits served.session first out start lines
 
--- so many bytes of the input were taken: none exactly where there is none
-pub record IsTaken (input : List ℕ) (count : ℕ) (left : Option (List ℕ)) : Type 0 where
-  pub rest : left ≡ Some (drop count input)
-  pub within : count ≤ length input
-  pub none : count ≡ 0 → input ≡ []
+-- The lines are answered up to somewhere, and the store holds the list that was come to.
+abbrev pub HasStopped : {K : Type 0} → (K → Option Held) → Limits → Store K → Option (List ℕ) → Option (List ℕ) → State → List Piece → Type 0
+HasStopped held limits store first out start lines = IsPartway limits start lines first out (Holds held store)
 
--- the input was taken to its end, within the limit on bytes
-pub record EndsDone (most : ℕ) (input : List ℕ) (left : Option (List ℕ)) : Type 0 where
-  pub all : left ≡ Some []
-  pub within : length input < most
+-- the text is what was taken of a source, where it tells
+abbrev pub IsTaken : Option (List ℕ) → List ℕ → Option (List ℕ) → Type 0
+IsTaken before text after = ForSome before (λ input. IsSomeAnd after (λ rest. input ≡ text ++ rest))
+
+-- nothing is left, where the source tells
+abbrev pub IsAtEnd : Option (List ℕ) → Option (List ℕ) → Type 0
+IsAtEnd before after = ForSome before (λ _. after ≡ Some [])
+
+-- the lines that may be worked on: those that have their line feed, and at the end the last one too
+abbrev pub AreDue : ℕ → List ℕ → Option (List ℕ) → Option (List ℕ) → List Piece → Type 0
+AreDue limit text before after lines =
+    (lines ≡ ended_lines limit text) ⊎ (IsAtEnd before after × (lines ≡ pieces_of limit text))
+
+-- So many bytes came of a source, none only where none is left, and all lines are answered that now
+-- have their line feed.
+pub record Takes {K : Type 0} (held : K → Option Held) (limits : Limits) (old now : Served K) (out_old out : Option (List ℕ)) (left_old left : Option (List ℕ)) (count : ℕ) : Type 0 where
+  pub piece : List ℕ
+  pub counted : length piece ≡ count
+  pub is_taken : IsTaken left_old piece left
+  pub none : count ≡ 0 → IsAtEnd left_old left
+  pub answers : (start : State) (first : Option (List ℕ)) (text : List ℕ) → IsAnswered held limits old first out_old start text → IsAnswered held limits now first out start (text ++ piece)
+
+-- At most so many bytes came of a source, and the lines are answered in part that now have their line
+-- feed.
+pub record TakesPart {K : Type 0} (held : K → Option Held) (limits : Limits) (room : ℕ) (old now : Served K) (out_old out : Option (List ℕ)) (left_old left : Option (List ℕ)) : Type 0 where
+  pub piece : List ℕ
+  pub within : length piece ≤ room
+  pub is_taken : IsTaken left_old piece left
+  pub answers : (start : State) (first : Option (List ℕ)) (text : List ℕ) → IsAnswered held limits old first out_old start text → HasStopped held limits now.session.store first out start (ended_lines limits.line (text ++ piece))
+
+-- A source was taken up to here, and all lines that have their line feed are answered.
+pub record Progress {K : Type 0} (held : K → Option Held) (limits : Limits) (old now : Served K) (out_old out : Option (List ℕ)) (left_old left : Option (List ℕ)) (taken : ℕ) : Type 0 where
+  pub text : List ℕ
+  pub is_taken : IsTaken left_old text left
+  pub counted : length text ≡ taken
+  pub answers : (start : State) (first : Option (List ℕ)) → IsAnswered held limits old first out_old start [] → IsAnswered held limits now first out start text
+
+-- A source was taken to its end, and all lines of it are answered.
+pub record ServesAll {K : Type 0} (held : K → Option Held) (limits : Limits) (old now : Served K) (out_old out : Option (List ℕ)) (left_old left : Option (List ℕ)) : Type 0 where
+  pub text : List ℕ
+  pub is_taken : IsTaken left_old text left
+  pub all : IsAtEnd left_old left
+  pub within : length text < limits.bytes
+  pub answers : (start : State) (first : Option (List ℕ)) → IsAnswered held limits old first out_old start [] → HasAnswered held limits now.session first out start (pieces_of limits.line text)
+
+-- A source was taken in part, and all lines that have their line feed are answered.
+pub record ServesEnded {K : Type 0} (held : K → Option Held) (limits : Limits) (old now : Served K) (out_old out : Option (List ℕ)) (left_old left : Option (List ℕ)) : Type 0 where
+  pub text : List ℕ
+  pub is_taken : IsTaken left_old text left
+  pub within : length text ≤ limits.bytes
+  pub answers : (start : State) (first : Option (List ℕ)) → IsAnswered held limits old first out_old start [] → HasAnswered held limits now.session first out start (ended_lines limits.line text)
+
+-- A source was taken in part, and its lines are answered in part.
+pub record ServesPart {K : Type 0} (held : K → Option Held) (limits : Limits) (old now : Served K) (out_old out : Option (List ℕ)) (left_old left : Option (List ℕ)) : Type 0 where
+  pub text : List ℕ
+  pub is_taken : IsTaken left_old text left
+  pub within : length text ≤ limits.bytes
+  pub lines : List Piece
+  pub due : AreDue limits.line text left_old left lines
+  pub answers : (start : State) (first : Option (List ℕ)) → IsAnswered held limits old first out_old start [] → HasStopped held limits now.session.store first out start lines
 
 -- as many bytes as may be were taken
 abbrev pub EndsLong : ℕ → List ℕ → Option (List ℕ) → Type 0
-EndsLong most input left = IfSome left (λ rest. length input ≡ most + length rest)
-
--- how far a source was taken and answered
-pub record Progress {K : Type 0} (held : K → Option Held) (limits : Limits) (first served : Served K) (out out_first : Option (List ℕ)) (left : Option (List ℕ)) (taken : ℕ) (input : List ℕ) : Type 0 where
-  pub text : List ℕ
-  pub rest : List ℕ
-  pub whole : input ≡ text ++ rest
-  pub left_is : left ≡ Some rest
-  pub counted : length text ≡ taken
-  pub answered : (start : State) (before : List ℕ) → IsAnswered held limits first out_first start [] before → IsAnswered held limits served out start text before
+EndsLong most input left = IsSomeAnd left (λ rest. length input ≡ most + length rest)

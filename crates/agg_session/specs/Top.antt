@@ -1,5 +1,5 @@
 -- What the top call says of a run.
-use Rattle.std.specs.Prelude.{◌≡◌, ℕ, ◌<◌, List, [], ◌++◌, length, Option, Some}
+use Rattle.std.specs.Prelude.{◌≡◌, ◌⊎◌, ℕ, ◌+◌, ◌<◌, ◌≤◌, List, [], ◌++◌, length, IsSomeAnd, Option, Some}
 use Rattle.std.specs.Option.{ForSome}
 use Rattle.agg_outside.specs.Rows.{Held}
 use Rattle.agg_model.specs.ChangeList.{ChangeList}
@@ -8,15 +8,15 @@ use Rattle.agg_session.specs.declared.status.Status.{Status}
 use Rattle.agg_session.specs.declared.status.Status.TheVariants as status
 use Rattle.agg_session.specs.declared.ends.LinkEnd.{LinkEnd}
 use Rattle.agg_session.specs.declared.ends.LinkEnd.TheVariants as ends
-use Rattle.agg_session.specs.Answer.{answer}
+use Rattle.line_words.specs.LineCut.{Piece}
+use Rattle.agg_session.specs.State.{starting}
+use Rattle.agg_session.specs.Rows.{held_for}
+use Rattle.agg_session.specs.Answer.{answer, after, joined, replies, state_after, ended_lines, IsPartway}
+use Rattle.agg_session.specs.Served.{IsTaken, IsAtEnd, AreDue}
 
 -- the limits of the program
 abbrev pub usual : Limits
 usual = record { line = 262144; opens = 64; content = 268435456; bytes = 1099511627776 }
-
--- the step size where the words give none
-abbrev pub usual_size : ℕ
-usual_size = 1562500
 
 -- a list before its first change
 abbrev pub empty_list : ℕ → ChangeList
@@ -35,9 +35,46 @@ status_of ends.Keeper = status.KeeperFault
 status_of ends.Long = status.Long
 status_of ends.Memory = status.Memory
 
--- The input was taken to its end, and what was written behind what stood there is the replies to all
--- of it, where the sink tells.
-pub record IsAnsweredWhole (limits : Limits) (list : ChangeList) (input : List ℕ) (left before now : Option (List ℕ)) : Type 0 where
-  pub all : left ≡ Some []
-  pub within : length input < limits.bytes
-  pub written : ForSome before (λ b. now ≡ Some (b ++ answer limits list input))
+-- a keeper that tells holds one alive row for each change of the list, and no others; its floor is 0
+abbrev pub HasRowsOf : Option Held → ChangeList → Type 0
+HasRowsOf held list = held ≡ Some (held_for list.changes)
+
+-- The source was taken to its end, and what was written is the replies to all of it.
+pub record EndsWhole (limits : Limits) (list : ChangeList) (left_old left out_old out : Option (List ℕ)) (held : Option Held) : Type 0 where
+  pub text : List ℕ
+  pub is_taken : IsTaken left_old text left
+  pub all : IsAtEnd left_old left
+  pub within : length text < limits.bytes
+  pub written : ForSome out_old (λ before. out ≡ Some (before ++ answer limits list text))
+  pub rows : HasRowsOf held (after limits list text)
+
+-- The source was taken in part, and what was written is the replies to all lines whose line feed was
+-- taken.
+pub record EndsBetween (limits : Limits) (list : ChangeList) (left_old left out_old out : Option (List ℕ)) (held : Option Held) : Type 0 where
+  pub text : List ℕ
+  pub is_taken : IsTaken left_old text left
+  pub within : length text ≤ limits.bytes
+  pub written : ForSome out_old (λ before. out ≡ Some (before ++ joined (replies limits 1 (ended_lines limits.line text) (starting list))))
+  pub rows : HasRowsOf held (state_after limits 1 (ended_lines limits.line text) (starting list)).list
+
+-- The source was taken in part, and what was written is the replies to its first lines and a part of
+-- the next one's.
+pub record EndsWithin (limits : Limits) (list : ChangeList) (left_old left out_old out : Option (List ℕ)) (held : Option Held) : Type 0 where
+  pub text : List ℕ
+  pub is_taken : IsTaken left_old text left
+  pub within : length text ≤ limits.bytes
+  pub lines : List Piece
+  pub due : AreDue limits.line text left_old left lines
+  pub partway : IsPartway limits (starting list) lines out_old out (HasRowsOf held)
+
+-- the statuses of a run that began and was not done
+abbrev pub IsCutShort : Status → Type 0
+IsCutShort s = (s ≡ status.Done → ⊥) × (s ≡ status.Usage → ⊥)
+
+-- those of a run that ended between two lines
+abbrev pub IsBetween : Status → Type 0
+IsBetween s = (s ≡ status.SourceFault) ⊎ (s ≡ status.Long)
+
+-- the source tells, and fewer bytes were taken of it than may be
+abbrev pub IsShort : ℕ → Option (List ℕ) → Option (List ℕ) → Type 0
+IsShort most left_old left = IsSomeAnd left_old (λ input. IsSomeAnd left (λ rest. length input < most + length rest))

@@ -2,6 +2,9 @@
 //! standard input and output.
 #![tactic(auto)]
 
+mod command_words;
+#[cfg(test)]
+mod ending_tests;
 mod ends;
 mod limits;
 mod line;
@@ -16,8 +19,11 @@ mod store;
 mod taking;
 #[cfg(test)]
 mod tests;
+#[cfg(test)]
+mod word_tests;
 
 use agg_outside::{FileMap, KeeperStart, Keys, Memory, NoGate, Rowlist};
+pub use command_words::step_size_of;
 pub use ends::LinkEnd;
 pub use limits::Limits;
 pub use link::{Link, Transaction};

@@ -1,12 +1,14 @@
 //! The top call: reads the words, and runs a session over what it is handed.
-ghost use Rattle.std.specs.Prelude.{◌≡◌, ◌≤◌, ◌^◌, ◌↔◌, ◌∷◌, [], map, codes, Some, IsTrue};
+ghost use Rattle.std.specs.Prelude.{◌≡◌, ◌⊎◌, ◌≤◌, ◌^◌, ◌↔◌, map, None};
 ghost use Rattle.std.specs.Option.{ForSome};
 ghost use Rattle.std.specs.String.{string_bytes};
 ghost use Rattle.std.specs.FinMap as files;
 ghost use Rattle.agg_outside.specs.Counts.{Rose};
 ghost use Rattle.agg_session.specs.Served.{EndsLong};
-ghost use Rattle.agg_session.specs.Top.{usual, usual_size, empty_list, empty_held, status_of, IsAnsweredWhole};
+ghost use Rattle.agg_session.specs.Top.{usual, empty_list, empty_held, status_of, IsShort, EndsWhole, EndsBetween, EndsWithin, IsBetween, IsCutShort};
+ghost use Rattle.agg_session.specs.CommandWords.{step_size_of};
 
+use crate::command_words::step_size_of;
 use crate::ends::LinkEnd;
 use crate::limits::Limits;
 use crate::link::Link;
@@ -21,9 +23,6 @@ use std::alloc::Global;
 use std::rt::Clock;
 use std::sync::Wait;
 use std::thread::Threads;
-
-/// The step size where the words give none.
-const STEP_SIZE: u64 = 1_562_500;
 
 /// How a run ended, with what it was handed.
 #[derive(Drop)]
@@ -61,8 +60,12 @@ pub fn run_plain<D: Disk, K: Keeper, I: Source, O: Sink>(
     requires limit { limits.now.content ≤ 2 ^ 28 }
     requires bytes { limits.now.bytes ≤ 2 ^ 40 }
     requires no_rows { ForSome (K.held keeper) (λ h. h ≡ empty_held) }
-    ensures done { result.status ≡ Status.Done → ForSome (I.left source.old) (λ input. ForSome (K.held keeper) (λ _.
-        IsAnsweredWhole limits.now (empty_list size) input (I.left source.new) (O.bytes sink.old) (O.bytes sink.new))) }
+    ensures done { result.status ≡ Status.Done → ForSome (K.held keeper) (λ _.
+        EndsWhole limits.now (empty_list size) (I.left source.old) (I.left source.new) (O.bytes sink.old) (O.bytes sink.new) (K.held result.keeper)) }
+    ensures between { IsBetween result.status → ForSome (K.held keeper) (λ _.
+        EndsBetween limits.now (empty_list size) (I.left source.old) (I.left source.new) (O.bytes sink.old) (O.bytes sink.new) (K.held result.keeper)) }
+    ensures within { IsCutShort result.status → ForSome (K.held keeper) (λ _.
+        EndsWithin limits.now (empty_list size) (I.left source.old) (I.left source.new) (O.bytes sink.old) (O.bytes sink.new) (K.held result.keeper)) }
     ensures source { result.status ≡ Status.SourceFault → Rose (I.faults source.old) (I.faults source.new) }
     ensures sink { result.status ≡ Status.SinkFault → Rose (O.faults sink.old) (O.faults sink.new) }
     ensures keeper { result.status ≡ Status.KeeperFault → Rose (K.faults keeper) (K.faults result.keeper) }
@@ -93,18 +96,8 @@ pub fn run_plain<D: Disk, K: Keeper, I: Source, O: Sink>(
     }
 }
 
-// The words are `run` alone.
-fn is_run(words: &[String]) -> bool
-    ensures { IsTrue result ↔ (map string_bytes words.now ≡ codes "run" ∷ []) }
-{
-    match words {
-        [word] => word.as_str() == "run",
-        _ => false,
-    }
-}
-
-/// Runs the command that the words after the program's name give: `run` alone so far. What it
-/// doesn't use stays as it was handed in.
+/// Runs the command that the words after the program's name give: `run` so far, whose step size
+/// `--step` may give. What it doesn't use stays as it was handed in.
 pub fn aggregate<
     H: Threads + Wait + Clock + Sync,
     I: Source,
@@ -128,11 +121,20 @@ pub fn aggregate<
     requires no_files { ForSome (D.files disk) (λ f. f ≡ files.empty) }
     requires no_rows { ForSome (K.held keeper) (λ h. h ≡ empty_held) }
 
-    // The replies are those of the plain change list, to the whole input.
-    ensures done { result.status ≡ Status.Done → ForSome (I.left source.old) (λ input. ForSome (K.held keeper) (λ _.
-        IsAnsweredWhole usual (empty_list usual_size) input (I.left source.new) (O.bytes sink.old) (O.bytes sink.new))) }
-    ensures usage { result.status ≡ Status.Usage ↔ ((map string_bytes words.now ≡ codes "run" ∷ []) → ⊥) }
+    // The replies are those of the plain change list, and its rows are kept.
+    ensures done { result.status ≡ Status.Done → ForSome (K.held keeper) (λ _. ForSome (step_size_of (map string_bytes words.now)) (λ size.
+        EndsWhole usual (empty_list size) (I.left source.old) (I.left source.new) (O.bytes sink.old) (O.bytes sink.new) (K.held result.keeper))) }
+    ensures between { IsBetween result.status → ForSome (K.held keeper) (λ _. ForSome (step_size_of (map string_bytes words.now)) (λ size.
+        EndsBetween usual (empty_list size) (I.left source.old) (I.left source.new) (O.bytes sink.old) (O.bytes sink.new) (K.held result.keeper))) }
+    ensures within { IsCutShort result.status → ForSome (K.held keeper) (λ _. ForSome (step_size_of (map string_bytes words.now)) (λ size.
+        EndsWithin usual (empty_list size) (I.left source.old) (I.left source.new) (O.bytes sink.old) (O.bytes sink.new) (K.held result.keeper))) }
+    ensures usage { result.status ≡ Status.Usage ↔ (step_size_of (map string_bytes words.now) ≡ None) }
     ensures usage_untouched { result.status ≡ Status.Usage → (I.left source.new ≡ I.left source.old) × (O.bytes sink.new ≡ O.bytes sink.old) × (result.keeper ≡ keeper) }
+
+    // A run that nothing ends early is done, or memory could not be had.
+    ensures complete { (step_size_of (map string_bytes words.now) ≡ None → ⊥) → (Rose (I.faults source.old) (I.faults source.new) → ⊥)
+        → (Rose (O.faults sink.old) (O.faults sink.new) → ⊥) → (Rose (K.faults keeper) (K.faults result.keeper) → ⊥)
+        → IsShort usual.bytes (I.left source.old) (I.left source.new) → (result.status ≡ Status.Done) ⊎ (result.status ≡ Status.Memory) }
 
     // A device is blamed only where its count of faults rose.
     ensures source { result.status ≡ Status.SourceFault → Rose (I.faults source.old) (I.faults source.new) }
@@ -142,13 +144,13 @@ pub fn aggregate<
     ensures disk { result.disk ≡ disk }
     ensures doors { doors.new ≡ doors.old }
 {
-    if !is_run(words) {
+    let Some(size) = step_size_of(words) else {
         return Ended {
             status: Status::Usage,
             disk,
             keeper,
         };
-    }
+    };
     let limits = Limits::usual();
-    run_plain(alloc, disk, keeper, STEP_SIZE, &limits, source, sink)
+    run_plain(alloc, disk, keeper, size, &limits, source, sink)
 }

@@ -1,10 +1,11 @@
 //! A text that comes in pieces: each line is answered before the next is worked on.
-ghost use Rattle.std.specs.Prelude.{◌≡◌, ◌<◌, ◌≤◌, ◌^◌, ◌+◌, ◌++◌, [], ℕ, List, length, IfOk, OnOk, None};
+ghost use Rattle.std.specs.Prelude.{◌≡◌, ◌<◌, ◌≤◌, ◌^◌, ◌+◌, ◌++◌, [], ℕ, List, length, IfOk, OnOk, OnErr, Option, None};
 ghost use Rattle.std.specs.Bool.{OnTrue, OnFalse};
-ghost use Rattle.line_words.specs.LineCut.{next_cut, rest_cut};
+ghost use Rattle.line_words.specs.LineCut.{next_cut, pieces_of};
 ghost use Rattle.agg_session.specs.State.{State};
 ghost use Rattle.agg_session.specs.Ends.{IsBlamed, faults_of};
-ghost use Rattle.agg_session.specs.Served.{IsServed, IsAnswered, HasAnswered};
+ghost use Rattle.agg_session.specs.Answer.{ended_lines};
+ghost use Rattle.agg_session.specs.Served.{IsServed, IsAnswered, HasAnswered, HasStopped};
 
 use crate::ends::LinkEnd;
 use crate::limits::Limits;
@@ -38,7 +39,8 @@ impl<K: Keeper> Served<K> {
         ensures lines { self.new.lines + length self.new.cut.left ≤ self.old.lines + length self.old.cut.left }
         ensures shorter { IfOk result (λ found. OnTrue found (length self.new.cut.left < length self.old.cut.left)) }
         ensures none { IfOk result (λ found. OnFalse found ((next_cut self.new.cut).0 ≡ None)) }
-        ensures answered { (start : State) (text before : List ℕ) → IsAnswered K.held limits.now self.old (O.bytes sink.old) start text before → OnOk result (IsAnswered K.held limits.now self.new (O.bytes sink.new) start text before) }
+        ensures answered { (start : State) (first : Option (List ℕ)) (text : List ℕ) → IsAnswered K.held limits.now self.old first (O.bytes sink.old) start text → OnOk result (IsAnswered K.held limits.now self.new first (O.bytes sink.new) start text) }
+        ensures stopped { (start : State) (first : Option (List ℕ)) (text : List ℕ) → IsAnswered K.held limits.now self.old first (O.bytes sink.old) start text → OnErr result (HasStopped K.held limits.now self.new.session.store first (O.bytes sink.new) start (ended_lines limits.now.line text)) }
         ensures blamed { IsBlamed (faults_of (K.faults self.old.session.store.keeper) (O.faults sink.old)) (faults_of (K.faults self.new.session.store.keeper) (O.faults sink.new)) result }
     {
         let number = self.lines + 1;
@@ -63,7 +65,8 @@ impl<K: Keeper> Served<K> {
         ensures sound { OnOk result (IsServed K.held limits.now self.new) }
         ensures lines { self.new.lines + length self.new.cut.left ≤ self.old.lines + length self.old.cut.left }
         ensures none { OnOk result ((next_cut self.new.cut).0 ≡ None) }
-        ensures answered { (start : State) (text before : List ℕ) → IsAnswered K.held limits.now self.old (O.bytes sink.old) start text before → OnOk result (IsAnswered K.held limits.now self.new (O.bytes sink.new) start text before) }
+        ensures answered { (start : State) (first : Option (List ℕ)) (text : List ℕ) → IsAnswered K.held limits.now self.old first (O.bytes sink.old) start text → OnOk result (IsAnswered K.held limits.now self.new first (O.bytes sink.new) start text) }
+        ensures stopped { (start : State) (first : Option (List ℕ)) (text : List ℕ) → IsAnswered K.held limits.now self.old first (O.bytes sink.old) start text → OnErr result (HasStopped K.held limits.now self.new.session.store first (O.bytes sink.new) start (ended_lines limits.now.line text)) }
         ensures blamed { IsBlamed (faults_of (K.faults self.old.session.store.keeper) (O.faults sink.old)) (faults_of (K.faults self.new.session.store.keeper) (O.faults sink.new)) result }
     {
         while self.answer_line(alloc, limits, sink)? {}
@@ -84,7 +87,8 @@ impl<K: Keeper> Served<K> {
         ensures sound { OnOk result (IsServed K.held limits.now self.new) }
         ensures lines { self.new.lines + length self.new.cut.left ≤ self.old.lines + length self.old.cut.left + length piece.now }
         ensures none { OnOk result ((next_cut self.new.cut).0 ≡ None) }
-        ensures answered { (start : State) (text before : List ℕ) → IsAnswered K.held limits.now self.old (O.bytes sink.old) start text before → OnOk result (IsAnswered K.held limits.now self.new (O.bytes sink.new) start (text ++ piece.now) before) }
+        ensures answered { (start : State) (first : Option (List ℕ)) (text : List ℕ) → IsAnswered K.held limits.now self.old first (O.bytes sink.old) start text → OnOk result (IsAnswered K.held limits.now self.new first (O.bytes sink.new) start (text ++ piece.now)) }
+        ensures stopped { (start : State) (first : Option (List ℕ)) (text : List ℕ) → IsAnswered K.held limits.now self.old first (O.bytes sink.old) start text → OnErr result (HasStopped K.held limits.now self.new.session.store first (O.bytes sink.new) start (ended_lines limits.now.line (text ++ piece.now))) }
         ensures blamed { IsBlamed (faults_of (K.faults self.old.session.store.keeper) (O.faults sink.old)) (faults_of (K.faults self.new.session.store.keeper) (O.faults sink.new)) result }
     {
         self.cut.push(piece)?;
@@ -102,7 +106,8 @@ impl<K: Keeper> Served<K> {
         requires lines { self.old.lines < 2 ^ 63 }
         requires sound { IsServed K.held limits.now self.old }
         requires none { (next_cut self.old.cut).0 ≡ None }
-        ensures answered { (start : State) (text before : List ℕ) → IsAnswered K.held limits.now self.old (O.bytes sink.old) start text before → OnOk result (HasAnswered K.held limits.now self.new (O.bytes sink.new) start text before) }
+        ensures answered { (start : State) (first : Option (List ℕ)) (text : List ℕ) → IsAnswered K.held limits.now self.old first (O.bytes sink.old) start text → OnOk result (HasAnswered K.held limits.now self.new.session first (O.bytes sink.new) start (pieces_of limits.now.line text)) }
+        ensures stopped { (start : State) (first : Option (List ℕ)) (text : List ℕ) → IsAnswered K.held limits.now self.old first (O.bytes sink.old) start text → OnErr result (HasStopped K.held limits.now self.new.session.store first (O.bytes sink.new) start (pieces_of limits.now.line text)) }
         ensures blamed { IsBlamed (faults_of (K.faults self.old.session.store.keeper) (O.faults sink.old)) (faults_of (K.faults self.new.session.store.keeper) (O.faults sink.new)) result }
     {
         let number = self.lines + 1;

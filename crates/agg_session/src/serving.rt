@@ -1,5 +1,5 @@
 //! The lines of a text that comes in pieces, each answered before the next is worked on.
-ghost use Rattle.std.specs.Prelude.{◌≡◌, ◌+◌, ◌<◌, ◌≤◌, ◌^◌, ◌++◌, [], Some, IfSome, IfNone, IfOk, OnOk, OnErr, is_some};
+ghost use Rattle.std.specs.Prelude.{◌≡◌, ◌+◌, ◌<◌, ◌≤◌, ◌^◌, ◌++◌, [], Some, IfSome, IfNone, IfOk, OnOk, OnErr, is_some, true};
 ghost use Rattle.agg_outside.specs.Counts.{HasCause};
 ghost use Rattle.line_words.specs.LineCut.{next_cut, rest_cut};
 ghost use Rattle.std.specs.Option.{ForSome};
@@ -48,6 +48,7 @@ pub(crate) fn next_reply<K: Keeper>(
     ensures found { IfOk result (λ text. is_some text ≡ is_some (next_cut cut.old).0) }
     ensures none { IfOk result (λ text. IfNone text (session.new ≡ session.old)) }
     ensures exact { (s : State) → Stands K.held session.old s → IfOk result (λ text. IfSome text (λ t. IfSome (next_cut cut.old).0 (λ piece. Steps K.held session.new t (step limits.now number piece s)))) }
+    ensures err_found { OnErr result (true ≡ is_some (next_cut cut.old).0) }
     ensures err { (s : State) → Stands K.held session.old s → OnErr result (IfSome (next_cut cut.old).0 (λ piece. EndsAt K.held session.new.store s.list (step limits.now number piece s).state.list)) }
     ensures cause { HasCause Stop.Keeper (K.faults session.old.store.keeper) (K.faults session.new.store.keeper) result }
 {
@@ -76,6 +77,7 @@ pub(crate) fn last_reply<K: Keeper>(
     ensures found { IfOk result (λ text. is_some text ≡ is_some (rest_cut cut.old)) }
     ensures none { IfOk result (λ text. IfNone text (session.new ≡ session.old)) }
     ensures exact { (s : State) → Stands K.held session.old s → IfOk result (λ text. IfSome text (λ t. IfSome (rest_cut cut.old) (λ piece. Steps K.held session.new t (step limits.now number piece s)))) }
+    ensures err_found { OnErr result (true ≡ is_some (rest_cut cut.old)) }
     ensures err { (s : State) → Stands K.held session.old s → OnErr result (IfSome (rest_cut cut.old) (λ piece. EndsAt K.held session.new.store s.list (step limits.now number piece s).state.list)) }
     ensures cause { HasCause Stop.Keeper (K.faults session.old.store.keeper) (K.faults session.new.store.keeper) result }
 {

@@ -1,10 +1,9 @@
 //! A session over a source and a sink: takes bytes, and answers each line before it takes more.
-ghost use Rattle.std.specs.Prelude.{◌≡◌, ◌<◌, ◌≤◌, ◌^◌, ◌+◌, ◌++◌, [], List, ℕ, length, take, drop, Some, None, IfOk, OnOk, IsErrOf, MatchResult};
+ghost use Rattle.std.specs.Prelude.{◌≡◌, ◌⊎◌, ◌<◌, ◌≤◌, ◌^◌, ◌+◌, length, None, IfOk, OnOk, OnErr, IfErr, IsErrOf, MatchResult};
 ghost use Rattle.std.specs.Option.{ForSome};
 ghost use Rattle.agg_outside.specs.Counts.{Rose};
 ghost use Rattle.line_words.specs.LineCut.{next_cut};
-ghost use Rattle.agg_session.specs.State.{State};
-ghost use Rattle.agg_session.specs.Served.{IsServed, IsAnswered, HasAnswered, IsTaken, EndsLong, EndsDone};
+ghost use Rattle.agg_session.specs.Served.{IsServed, IsTaken, IsAtEnd, Takes, TakesPart, ServesAll, ServesEnded, ServesPart, EndsLong};
 
 use crate::ends::LinkEnd;
 use crate::limits::Limits;
@@ -14,6 +13,23 @@ use std::alloc::Global;
 
 /// How many bytes are asked for at a time.
 const ROOM: usize = 4096;
+
+// Takes the next bytes into the buffer, and answers those that came: none at the end of the source.
+fn take_piece<'a, I: Source>(source: &mut I, buffer: &'a mut [u8]) -> Result<&'a [u8], LinkEnd>
+    requires { 0 < length buffer.old }
+    ensures fits { IfOk result (λ piece. length piece.now ≤ length buffer.old) }
+    ensures taken { IfOk result (λ piece. IsTaken (I.left source.old) piece.now (I.left source.new)) }
+    ensures none { IfOk result (λ piece. length piece.now ≡ 0 → IsAtEnd (I.left source.old) (I.left source.new)) }
+    ensures err { OnErr result (I.left source.new ≡ I.left source.old) }
+    ensures only { IfErr result (λ end. end ≡ LinkEnd.Source) }
+    ensures source_stays { I.faults source.old ≤ I.faults source.new }
+    ensures source { OnErr result (Rose (I.faults source.old) (I.faults source.new)) }
+{
+    match source.take(buffer) {
+        Ok(count) => Ok(&buffer[..count]),
+        Err(_) => Err(LinkEnd::Source),
+    }
+}
 
 // Takes at most `room` bytes and answers the lines that they end. Answers how many bytes came: none
 // at the end of the source.
@@ -35,8 +51,9 @@ fn take_some<K: Keeper, I: Source, O: Sink>(
     ensures sound { OnOk result (IsServed K.held limits.now served.new) }
     ensures none { OnOk result ((next_cut served.new.cut).0 ≡ None) }
     ensures lines { IfOk result (λ count. served.new.lines + length served.new.cut.left ≤ served.old.lines + length served.old.cut.left + count) }
-    ensures taken { ForSome (I.left source.old) (λ input. IfOk result (λ count. IsTaken input count (I.left source.new))) }
-    ensures answered { (start : State) (text before input : List ℕ) → I.left source.old ≡ Some input → IsAnswered K.held limits.now served.old (O.bytes sink.old) start text before → IfOk result (λ count. IsAnswered K.held limits.now served.new (O.bytes sink.new) start (text ++ take count input) before) }
+    ensures answered { IfOk result (λ count. Takes K.held limits.now served.old served.new (O.bytes sink.old) (O.bytes sink.new) (I.left source.old) (I.left source.new) count) }
+    ensures stopped { OnErr result (TakesPart K.held limits.now room served.old served.new (O.bytes sink.old) (O.bytes sink.new) (I.left source.old) (I.left source.new)) }
+    ensures nothing { IsErrOf result LinkEnd.Source → (served.new ≡ served.old) × (O.bytes sink.new ≡ O.bytes sink.old) × (I.left source.new ≡ I.left source.old) }
     ensures source_stays { I.faults source.old ≤ I.faults source.new }
     ensures source { IsErrOf result LinkEnd.Source → Rose (I.faults source.old) (I.faults source.new) }
     ensures keeper_stays { K.faults served.old.session.store.keeper ≤ K.faults served.new.session.store.keeper }
@@ -47,12 +64,9 @@ fn take_some<K: Keeper, I: Source, O: Sink>(
     ensures long { IsErrOf result LinkEnd.Long → ⊥ }
 {
     let mut buffer = [0u8; ROOM];
-    let count = match source.take(&mut buffer[..room]) {
-        Ok(count) => count,
-        Err(_) => return Err(LinkEnd::Source),
-    };
-    served.feed(alloc, limits, &buffer[..count], sink)?;
-    Ok(count)
+    let piece = take_piece(source, &mut buffer[..room])?;
+    served.feed(alloc, limits, piece, sink)?;
+    Ok(piece.len())
 }
 
 /// Serves the source to its end, and at most `limits.bytes` bytes of it.
@@ -68,8 +82,9 @@ pub fn serve<K: Keeper, I: Source, O: Sink>(
     requires fresh { served.old.lines + length served.old.cut.left ≡ 0 }
     requires sound { IsServed K.held limits.now served.old }
     requires none { (next_cut served.old.cut).0 ≡ None }
-    ensures done { result ≡ LinkEnd.Done → ForSome (I.left source.old) (λ input. EndsDone limits.now.bytes input (I.left source.new)) }
-    ensures answered { result ≡ LinkEnd.Done → (start : State) (before input : List ℕ) → I.left source.old ≡ Some input → IsAnswered K.held limits.now served.old (O.bytes sink.old) start [] before → HasAnswered K.held limits.now served.new (O.bytes sink.new) start input before }
+    ensures all { result ≡ LinkEnd.Done → ServesAll K.held limits.now served.old served.new (O.bytes sink.old) (O.bytes sink.new) (I.left source.old) (I.left source.new) }
+    ensures ended { (result ≡ LinkEnd.Source) ⊎ (result ≡ LinkEnd.Long) → ServesEnded K.held limits.now served.old served.new (O.bytes sink.old) (O.bytes sink.new) (I.left source.old) (I.left source.new) }
+    ensures part { (result ≡ LinkEnd.Done → ⊥) → ServesPart K.held limits.now served.old served.new (O.bytes sink.old) (O.bytes sink.new) (I.left source.old) (I.left source.new) }
     ensures long { result ≡ LinkEnd.Long → ForSome (I.left source.old) (λ input. EndsLong limits.now.bytes input (I.left source.new)) }
     ensures source_stays { I.faults source.old ≤ I.faults source.new }
     ensures source { result ≡ LinkEnd.Source → Rose (I.faults source.old) (I.faults source.new) }

@@ -5,12 +5,15 @@ use agg_outside::*;
 use memory_side::*;
 use std::alloc::Global;
 use std::process::Abort;
+use std::rt::Clock;
+use std::sync::Wait;
 use std::test::Fail;
+use std::thread::Threads;
 
-const FIRST_PATH: &[u8] =
+pub(crate) const FIRST_PATH: &[u8] =
     b"tx 0\nput accounts aa 01\ncommit\nopen\nlatest 1 accounts aa\nlatest 1 accounts bb\nclose 1\n";
 
-const FIRST_REPLIES: &[u8] = b"ok\nok\ncommitted 1 1\nopened 1 1\nvalue 01\nnone\nok\n";
+pub(crate) const FIRST_REPLIES: &[u8] = b"ok\nok\ncommitted 1 1\nopened 1 1\nvalue 01\nnone\nok\n";
 
 // A run at the usual step size and limits, over an empty disk and keeper.
 fn status_of_run<I: Source, O: Sink>(
@@ -26,6 +29,35 @@ fn status_of_run<I: Source, O: Sink>(
     let keeper = SureKeeper::new(alloc, &rows)?;
     let limits = Limits::usual();
     Ok(run_plain(alloc, disk, keeper, 1_562_500, &limits, source, sink).status)
+}
+
+pub(crate) fn words_of(alloc: Global, texts: &[&str]) -> Result<Vec<String>, Memory> {
+    let mut words = Vec::new(alloc);
+    for text in texts {
+        words.push(String::from_str(alloc, text)?)?;
+    }
+    Ok(words)
+}
+
+// The top call over an empty disk and keeper, and no doors.
+pub(crate) fn status_of_words<H: Threads + Wait + Clock + Sync, I: Source, O: Sink>(
+    rt: &H,
+    alloc: Global,
+    words: &[String],
+    source: &mut I,
+    sink: &mut O,
+) -> Result<Status, Memory> {
+    let disk = SureDisk::new(alloc, &FileMap::new(alloc))?;
+    let rows = KeeperStart {
+        rows: Rowlist::new(alloc),
+        floor: 0,
+    };
+    let keeper = SureKeeper::new(alloc, &rows)?;
+    let mut doors = SureDoors::new(alloc, &Keys::new(alloc))?;
+    let ended = aggregate(
+        rt, alloc, words, source, sink, &mut doors, disk, keeper, &NoGate,
+    );
+    Ok(ended.status)
 }
 
 // The text gets these replies, where at most `most` bytes come at a time.
@@ -80,12 +112,13 @@ fn of_two_puts_in_one_transaction_the_last_stands(rt: HostRuntime) -> Result<(),
 }
 
 #[test]
-fn a_source_that_fails_ends_the_run(rt: HostRuntime) -> Result<(), Fail> {
+fn the_step_size_bounds_the_numbers(rt: HostRuntime) -> Result<(), Fail> {
     let alloc = rt.alloc();
-    let mut source = MemSource::new(alloc, b"tx 1\nput acc", &[2])?;
+    let mut source = SureSource::new(alloc, b"tx 4095\ntx 4096\n")?;
     let mut sink = SureSink::new(alloc, &[])?;
-    let status = status_of_run(alloc, &mut source, &mut sink)?;
-    assert_eq!(rt; status, Status::SourceFault);
-    assert_eq!(rt; sink.bytes(), b"ok\n".as_slice());
+    let words = words_of(alloc, &["run", "--step", "1"])?;
+    let status = status_of_words(&rt, alloc, words.as_slice(), &mut source, &mut sink)?;
+    assert_eq!(rt; status, Status::Done);
+    assert_eq!(rt; sink.bytes(), b"ok\nerr syntax 2\n".as_slice());
     Ok(())
 }

@@ -8,6 +8,7 @@ ghost use Rattle.recsplit_index.specs.Index.{index_of};
 use agg_outside::{Memory, Steps};
 use recsplit_index::HashIndex;
 use std::alloc::Global;
+use std::marker::Brand;
 use std::sync::ledger::{Blank, Ledger};
 use word_file::{Tag, WordFile, WordWriter};
 
@@ -129,11 +130,17 @@ fn found<L: Ledger>(words: &WordFile, index: &HashIndex, tries: u32, steps: &mut
     sum
 }
 
-/// `pairs` is the length of the word file, `hashed` that of its accessor, and `found` the sum of the
-/// offsets found; 0 where the keys don't differ.
-pub fn sum_of_keys<L: Ledger>(
+// How far a run goes: to the word file, to its accessor, or to a look for each key.
+#[derive(Clone, Copy)]
+enum Stage {
+    Pairs,
+    Accessor,
+    Looks,
+}
+
+fn sum_of_keys<L: Ledger>(
     alloc: Global,
-    part: &str,
+    stage: Stage,
     count: u64,
     blank: Blank,
 ) -> Result<u64, Memory>
@@ -146,12 +153,23 @@ pub fn sum_of_keys<L: Ledger>(
     if !is_paired(&words) || !keys_differ(&words, &mut steps) {
         return Ok(0);
     }
-    if part == "pairs" {
+    if let Stage::Pairs = stage {
         return Ok(words.bytes().len() as u64);
     }
     let index = HashIndex::build(alloc, &words, TRIES)?;
-    if part == "hashed" {
+    if let Stage::Accessor = stage {
         return Ok(index.bytes().len() as u64);
     }
     Ok(found(&words, &index, TRIES, &mut steps))
+}
+
+/// `hashed_pairs` gives the length of the word file, `hashed` that of its accessor, and every other part the
+/// sum of the offsets found; 0 where the keys don't differ.
+pub fn sum_of_hashed(alloc: Global, part: &str, count: u64) -> Result<u64, Memory> {
+    let stage = match part {
+        "hashed_pairs" => Stage::Pairs,
+        "hashed" => Stage::Accessor,
+        _ => Stage::Looks,
+    };
+    sum_of_keys::<Brand>(alloc, stage, count, Blank::new(1))
 }

@@ -3,10 +3,14 @@
 #![tactic(auto)]
 
 mod hashed;
+mod lists;
+mod ordered;
 mod words;
 
 use agg_outside::Memory;
-use hashed::sum_of_keys;
+use hashed::sum_of_hashed;
+use lists::sum_of_lists;
+use ordered::sum_of_ordered;
 use std::env;
 use std::marker::Brand;
 use std::process::ExitCode;
@@ -28,9 +32,17 @@ fn sum_of_part<R: AllocGlobal + Env>(rt: &R) -> Result<Option<u64>, Memory> {
     };
     match part.as_str() {
         "words" => Ok(Some(sum_of_words::<Brand>(rt.alloc(), count, Blank::new(1))?)),
-        "pairs" | "hashed" | "found" => {
-            let part = part.as_str();
-            Ok(Some(sum_of_keys::<Brand>(rt.alloc(), part, count, Blank::new(1))?))
+        "hashed_pairs" | "hashed" | "hashed_find" => {
+            Ok(Some(sum_of_hashed(rt.alloc(), part.as_str(), count)?))
+        }
+        "lists" | "lists_encode" | "lists_get" | "lists_seek" => {
+            Ok(Some(sum_of_lists(rt.alloc(), part.as_str(), count)?))
+        }
+        "ordered" => {
+            let Some(looks) = args.next().and_then(|word| word.parse::<u64>().ok()) else {
+                return Ok(None);
+            };
+            Ok(Some(sum_of_ordered::<Brand>(rt.alloc(), count, looks, Blank::new(1))?))
         }
         _ => Ok(None),
     }

@@ -5,14 +5,14 @@ use Rattle.std.proofs.lemmas.Nat.{pow_pos, pow-add, mod-pow-add, shr_split, shr-
 use Rattle.std.proofs.lemmas.Nat.Bits.{bit_at-trailing_zeros, same_from_bits, bit_at_cat_low, bit_at_above, bit_at-zero}
 use Rattle.std.proofs.lemmas.Bool.{cases_lt}
 use Rattle.std.proofs.lemmas.List.{length-take, length-drop, take-append-drop, take-take, drop-take, drop-drop, take_all, drop_more}
-use Rattle.std.specs.Int.{w64, bit_at, trailing_zeros}
+use Rattle.std.specs.Int.{w64, bit_at, trailing_zeros, from_le_bytes}
 use Rattle.std.specs.Int.RustNames.{count_ones}
 use Rattle.std.specs.Int.Count.{ones_step}
 use Rattle.bit_store.specs.Bits.{digit, number_of, ones_of, bits_of, IsOneAt}
 use Rattle.bit_store.specs.Counts.{number_in, IsPlaceIn}
 use Rattle.bit_store.proofs.Numbers.{digit-lt, number_of-take, number_of-drop, number_of-lt, ones-number_of, ones_of-append}
 use Rattle.bit_store.proofs.Writing.{low_of_low}
-use Rattle.bit_store.proofs.Texts.{IsBytes, bits_of-take, bits_of-drop, number_in-cons, number_in-nil, number_in-lt, number_in-step}
+use Rattle.bit_store.proofs.Texts.{IsBytes, bits_of-take, bits_of-drop, number_in-cons, number_in-nil, number_in-lt, number_in-step, le_word8, IsBytes-take, IsBytes-drop}
 
 -- a part of the first bits is that part of all
 pub part_of_front : (w s k : ℕ) (xs : List Bool) → s + w ≤ k → take w (drop s (take k xs)) ≡ take w (drop s xs)
@@ -31,6 +31,16 @@ field_in bytes i w len k wide within =
     let from : take w (drop s (take (8 * k) (drop (8 * q) all))) ≡ take w (drop i all) = part_of_front w s (8 * k) (drop (8 * q) all) wide ∙ ap (take w) (drop-drop s (8 * q) all ∙ ap (λ n. drop n all) place) in
     let num : number_of (take w (drop s (take (8 * k) (drop (8 * q) all)))) ≡ number_of (take (8 * k) (drop (8 * q) all)) / 2 ^ s % 2 ^ w = number_of-take w (drop s (take (8 * k) (drop (8 * q) all))) ∙ ap (λ x. x % 2 ^ w) (number_of-drop s (take (8 * k) (drop (8 * q) all))) in
     ap (λ x. number_of x / 2 ^ s % 2 ^ w) bits ∙ sym num ∙ ap number_of (from ∙ sym (part_of_front w i len all within))
+
+-- a word of 64 bits from the start of a byte on
+pub aligned_word : (bytes : List ℕ) (at len word : ℕ) → IsBytes bytes → at % 8 ≡ 0 → at + 64 ≤ len → len ≤ 8 * length bytes → word < 2 ^ 64 → word ≡ from_le_bytes w64 (take 8 (drop (at / 8) bytes)) → word ≡ number_of (take 64 (drop at (take len (bits_of bytes))))
+aligned_word bytes at len word fits even within long small e =
+    let part = take 8 (drop (at / 8) bytes) in
+    let size : length part ≡ 8 = omega (arith, length-take 8 (drop (at / 8) bytes), length-drop (at / 8) bytes) in
+    let num : word ≡ number_in part = e ∙ le_word8 part (IsBytes-take 8 (drop (at / 8) bytes) (IsBytes-drop (at / 8) bytes fits)) size in
+    let all : word / 2 ^ 0 % 2 ^ 64 ≡ word = ap (λ x. x % 2 ^ 64) (div-one word) ∙ mod-eq_of_lt small in
+    let shift : word / 2 ^ (at % 8) % 2 ^ 64 ≡ word / 2 ^ 0 % 2 ^ 64 = ap (λ s. word / 2 ^ s % 2 ^ 64) even in
+    sym all ∙ sym shift ∙ ap (λ x. x / 2 ^ (at % 8) % 2 ^ 64) num ∙ field_in bytes at 64 len 8 (omega arith) within
 
 -- one bit as a number
 pub digit-get : (bits : List Bool) (i : ℕ) → number_of bits / 2 ^ i % 2 ≡ digit (get_or bits i false)
@@ -73,6 +83,27 @@ ones_field a w word xs e = ones_more a w xs ∙ ap (λ n. ones_of (take a xs) + 
 pub ones_mod_add : (n j k : ℕ) → count_ones (n % 2 ^ (j + k)) ≡ count_ones (n / 2 ^ k % 2 ^ j) + count_ones (n % 2 ^ k)
 ones_mod_add n j k = ap count_ones (mod-pow-add n j k) ∙ ones_cat k (n / 2 ^ k % 2 ^ j) (n % 2 ^ k) (mod-lt n (pow_pos k))
 
+-- a bit among the low bits
+low_bit : (n w p : ℕ) → p < w → n / 2 ^ p % 2 ≡ n % 2 ^ w / 2 ^ p % 2
+low_bit n w p lt =
+    let e : (w - p) + p ≡ w = omega arith in
+    let field : n % 2 ^ w / 2 ^ p ≡ n / 2 ^ p % 2 ^ (w - p) = ap (λ k. n % 2 ^ k / 2 ^ p) (sym e) ∙ field_of n (w - p) p in
+    sym (ap (λ x. x % 2) field ∙ low_of_low (n / 2 ^ p) 1 (w - p) (omega arith))
+
+-- a bit of a word, and the bits of the word before it
+pub bit_of_part : (bits : List Bool) (at w word p : ℕ) → p < w → word ≡ number_of (take w (drop at bits)) → number_of bits / 2 ^ (at + p) % 2 ≡ word / 2 ^ p % 2
+bit_of_part bits at w word p inside e =
+    ap (λ x. x % 2) (sym (shr-shr (number_of bits) at p)) ∙ ap (λ x. x / 2 ^ p % 2) (sym (number_of-drop at bits)) ∙ low_bit (number_of (drop at bits)) w p inside ∙ ap (λ x. x / 2 ^ p % 2) (sym (number_of-take w (drop at bits)) ∙ sym e)
+
+pub front_of_part : (bits : List Bool) (at w word p : ℕ) → p < w → word ≡ number_of (take w (drop at bits)) → number_of (take p (drop at bits)) ≡ word % 2 ^ p
+front_of_part bits at w word p inside e =
+    number_of-take p (drop at bits) ∙ sym (ap (λ x. x % 2 ^ p) (e ∙ number_of-take w (drop at bits)) ∙ low_of_low (number_of (drop at bits)) p w (omega arith))
+
+pub part_below : (bits : List Bool) (at w word : ℕ) → at + w ≤ length bits → word ≡ number_of (take w (drop at bits)) → word < 2 ^ w
+part_below bits at w word le e =
+    let field = take w (drop at bits) in
+    rw e (subst (λ n. number_of field < 2 ^ n) (omega (arith, length-take w (drop at bits), length-drop at bits)) (number_of-lt field))
+
 -- a place in a word is a place in the bits
 pub record Placed (bits : List Bool) (at w p k : ℕ) : Type 0 where
   pub within : p < w
@@ -81,8 +112,7 @@ pub record Placed (bits : List Bool) (at w p k : ℕ) : Type 0 where
 
 pub placed : (bits : List Bool) (at w word p k : ℕ) → at + w ≤ length bits → word ≡ number_of (take w (drop at bits)) → IsPlaceIn word k p → Placed bits at w p k
 placed bits at w word p k le e place =
-    let field = take w (drop at bits) in
-    let small : word < 2 ^ w = rw e (subst (λ n. number_of field < 2 ^ n) (omega (arith, length-take w (drop at bits), length-drop at bits)) (number_of-lt field)) in
+    let small : word < 2 ^ w = part_below bits at w word le e in
     let inside : p < w =
     elim (cases_lt p w) [
       | inl lt ↦ lt
@@ -91,21 +121,13 @@ placed bits at w word p k le e place =
           let none : word / 2 ^ p ≡ 0 = div-eq_of_lt (omega arith) in
           absurd (omega (arith, place.one, ap (λ x. x % 2) none))
     ] in
-    let digit_is : number_of bits / 2 ^ (at + p) % 2 ≡ 1 =
-    ap (λ x. x % 2) (sym (shr-shr (number_of bits) at p)) ∙ ap (λ x. x / 2 ^ p % 2) (sym (number_of-drop at bits)) ∙ low_bit (number_of (drop at bits)) w p inside ∙ ap (λ x. x / 2 ^ p % 2) (sym (number_of-take w (drop at bits)) ∙ sym e) ∙ place.one in
-    let front : number_of (take p (drop at bits)) ≡ word % 2 ^ p = number_of-take p (drop at bits) ∙ sym (ap (λ x. x % 2 ^ p) (e ∙ number_of-take w (drop at bits)) ∙ low_of_low (number_of (drop at bits)) p w (omega arith)) in
+    let digit_is : number_of bits / 2 ^ (at + p) % 2 ≡ 1 = bit_of_part bits at w word p inside e ∙ place.one in
+    let front = front_of_part bits at w word p inside e in
     record {
       within = inside;
       one = (omega arith, digit-one _ (sym (digit-get bits (at + p)) ∙ digit_is));
       before = ones_field at p (word % 2 ^ p) bits (sym front) ∙ ap (λ n. ones_of (take at bits) + n) place.before;
     }
-  where
-    -- a bit among the low bits
-    low_bit : (n w p : ℕ) → p < w → n / 2 ^ p % 2 ≡ n % 2 ^ w / 2 ^ p % 2
-    low_bit n w p lt =
-        let e : (w - p) + p ≡ w = omega arith in
-        let field : n % 2 ^ w / 2 ^ p ≡ n / 2 ^ p % 2 ^ (w - p) = ap (λ k. n % 2 ^ k / 2 ^ p) (sym e) ∙ field_of n (w - p) p in
-        sym (ap (λ x. x % 2) field ∙ low_of_low (n / 2 ^ p) 1 (w - p) (omega arith))
 
 -- the place of the lowest 1
 pub lowest : (word : ℕ) → 0 < word → word < 2 ^ 64 → IsPlaceIn word 0 (trailing_zeros w64 word)

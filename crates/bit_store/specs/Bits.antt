@@ -43,6 +43,10 @@ ones_of (bit ∷ bits) = digit bit + ones_of bits
 abbrev pub IsOneAt : List Bool → ℕ → Type 0
 IsOneAt bits i = (i < length bits) × (get_or bits i false ≡ true)
 
+-- bit i is a 0
+abbrev pub IsZeroAt : List Bool → ℕ → Type 0
+IsZeroAt bits i = (i < length bits) × (get_or bits i false ≡ false)
+
 -- the bytes hold so many bits: no byte more, and what follows the bits is 0
 pub record IsHeld (len : ℕ) (bytes : List ℕ) : Type 0 where
   pub count : length bytes ≡ bytes_for len

@@ -35,10 +35,27 @@ fn a_view_finds_its_ones(rt: HostRuntime) {
     ] {
         assert_eq!(rt; view.select_one(k), place);
     }
+    assert_eq!(rt; view.ones_between(3, 137), 2);
+    assert_eq!(rt; view.select_one_from(2, 1), Some(136));
+    assert_eq!(rt; view.select_one_from(8, 1), Some(143));
     assert_eq!(rt; view.next_one(4), Some(136));
     assert_eq!(rt; view.next_one(144), None);
     assert_eq!(rt; view.last_one(136), Some(3));
     assert_eq!(rt; view.last_one(1), None);
+}
+
+#[test]
+fn a_view_finds_its_zeros(rt: HostRuntime) {
+    let bytes = [0xff, 0xff, 0xff, 0xff, 0xff, 0xff, 0xff, 0xff, 0xfb, 0x0f];
+    let view = BitView::of(&bytes, 80);
+    assert_eq!(rt; view.select_zero_from(0, 0), Some(66));
+    assert_eq!(rt; view.select_zero_from(5, 1), Some(76));
+    assert_eq!(rt; view.select_zero_from(67, 0), Some(76));
+    assert_eq!(rt; view.select_zero_from(0, 4), Some(79));
+    assert_eq!(rt; view.select_zero_from(0, 5), None);
+    assert_eq!(rt; view.front(70).select_zero_from(0, 0), Some(66));
+    assert_eq!(rt; view.front(70).select_zero_from(0, 1), None);
+    assert_eq!(rt; view.front(100).len(), 80);
 }
 
 // 5 with parameter 2 is one 0, a 1, and 01 from its low end: the bits 0110, which weigh 6.

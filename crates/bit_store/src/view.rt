@@ -1,5 +1,6 @@
 ghost use Rattle.std.specs.Prelude.{◌≡◌, ◌<◌, ◌≤◌, ◌+◌, ◌*◌, ◌%◌, ◌/◌, ◌^◌, false, length, take, drop, slice_index_or, count_ones, IfSome, IfNone};
-ghost use Rattle.bit_store.specs.Bits.{number_of, bits_of, ones_of, IsOneAt};
+ghost use Rattle.std.specs.Int.{w64, from_le_bytes};
+ghost use Rattle.bit_store.specs.Bits.{number_of, bits_of, ones_of, IsOneAt, IsZeroAt};
 ghost use Rattle.bit_store.specs.Counts.{number_in, IsPlaceIn};
 
 use crate::bits::low_part;
@@ -52,6 +53,70 @@ fn window(bytes: &[u8], start: usize) -> u128
     ])
 }
 
+// Eight bytes as a number, the first the least.
+fn word_at(bytes: &[u8], at: usize) -> u64
+    requires { at + 8 ≤ length bytes.now }
+    ensures { result ≡ from_le_bytes w64 (take 8 (drop at bytes.now)) }
+{
+    u64::from_le_bytes([
+        bytes[at],
+        bytes[at + 1],
+        bytes[at + 2],
+        bytes[at + 3],
+        bytes[at + 4],
+        bytes[at + 5],
+        bytes[at + 6],
+        bytes[at + 7],
+    ])
+}
+
+// From the start of a byte on, goes past words of 64 bits in which the k-th 1 doesn't lie: the place
+// behind them, and how many ones are left to go past there.
+fn past_ones(bytes: &[u8], len: u64, from: u64, k: u64) -> (u64, u64)
+    requires fits { len ≤ 8 * length bytes.now }
+    requires inside { from ≤ len }
+    ensures order { from ≤ result.0 }
+    ensures within { result.0 ≤ len }
+    ensures left { ones_of (take result.0 (take len (bits_of bytes.now))) + result.1 ≡ ones_of (take from (take len (bits_of bytes.now))) + k }
+{
+    let mut at = from;
+    let mut left = k;
+    if from % 8 == 0 {
+        while len - at >= 64 {
+            let here = u64::from(word_at(bytes, (at / 8) as usize).count_ones());
+            if here > left {
+                break;
+            }
+            left -= here;
+            at += 64;
+        }
+    }
+    (at, left)
+}
+
+// The same for the k-th 0.
+fn past_zeros(bytes: &[u8], len: u64, from: u64, k: u64) -> (u64, u64)
+    requires fits { len ≤ 8 * length bytes.now }
+    requires inside { from ≤ len }
+    ensures order { from ≤ result.0 }
+    ensures within { result.0 ≤ len }
+    ensures left { result.0 + ones_of (take from (take len (bits_of bytes.now))) + result.1 ≡ from + ones_of (take result.0 (take len (bits_of bytes.now))) + k }
+{
+    let mut at = from;
+    let mut left = k;
+    if from % 8 == 0 {
+        while len - at >= 64 {
+            let here = 64 - u64::from(word_at(bytes, (at / 8) as usize).count_ones());
+            if here > left {
+                break;
+            }
+            left -= here;
+            at += 64;
+        }
+    }
+    (at, left)
+}
+
 // The place of the k-th 1 of a number, by halves.
 fn place_in(word: u64, k: u32) -> u32
     requires { k < count_ones word }
@@ -91,6 +156,16 @@ impl<'a> BitView<'a> {
         }
     }
 
+    /// The first `len` bits of the view, or all of it.
+    pub fn front(&self, len: u64) -> BitView<'a>
+        ensures { result ≡ take len self.now }
+    {
+        BitView {
+            bytes: self.bytes,
+            len: len.min(self.len),
+        }
+    }
+
     /// The number of bits.
     pub fn len(&self) -> u64
         ensures { result ≡ length self.now }
@@ -122,13 +197,22 @@ impl<'a> BitView<'a> {
         requires { i ≤ length self.now }
         ensures { result ≡ ones_of (take i self.now) }
     {
+        self.ones_between(0, i)
+    }
+
+    /// How many of the bits from `from` up to `to` are 1.
+    pub fn ones_between(&self, from: u64, to: u64) -> u64
+        requires order { from ≤ to }
+        requires inside { to ≤ length self.now }
+        ensures { ones_of (take from self.now) + result ≡ ones_of (take to self.now) }
+    {
         let mut total = 0;
-        let mut at = 0;
-        while i - at > 64 {
+        let mut at = from;
+        while to - at > 64 {
             total += u64::from(self.field(at, 64).count_ones());
             at += 64;
         }
-        total + u64::from(self.field(at, (i - at) as u32).count_ones())
+        total + u64::from(self.field(at, (to - at) as u32).count_ones())
     }
 
     /// The place of the k-th 1, counted from 0.
@@ -136,8 +220,16 @@ impl<'a> BitView<'a> {
         ensures found { IfSome result (λ p. IsOneAt self.now p × (ones_of (take p self.now) ≡ k)) }
         ensures none { IfNone result (ones_of self.now ≤ k) }
     {
-        let mut left = k;
-        let mut at = 0;
+        self.select_one_from(0, k)
+    }
+
+    /// The place of the k-th 1 from `from` on, counted from 0.
+    pub fn select_one_from(&self, from: u64, k: u64) -> Option<u64>
+        requires { from ≤ length self.now }
+        ensures found { IfSome result (λ p. (from ≤ p) × IsOneAt self.now p × (ones_of (take p self.now) ≡ ones_of (take from self.now) + k)) }
+        ensures none { IfNone result (ones_of self.now ≤ ones_of (take from self.now) + k) }
+    {
+        let (mut at, mut left) = past_ones(self.bytes, self.len, from, k);
         while at < self.len() {
             let width = (self.len() - at).min(64);
             let word = self.field(at, width as u32);
@@ -146,6 +238,26 @@ impl<'a> BitView<'a> {
                 return Some(at + u64::from(place_in(word, left as u32)));
             }
             left -= ones;
+            at += width;
+        }
+        None
+    }
+
+    /// The place of the k-th 0 from `from` on, counted from 0.
+    pub fn select_zero_from(&self, from: u64, k: u64) -> Option<u64>
+        requires { from ≤ length self.now }
+        ensures found { IfSome result (λ p. (from ≤ p) × IsZeroAt self.now p × (p + ones_of (take from self.now) ≡ from + ones_of (take p self.now) + k)) }
+        ensures none { IfNone result (length self.now + ones_of (take from self.now) ≤ from + ones_of self.now + k) }
+    {
+        let (mut at, mut left) = past_zeros(self.bytes, self.len, from, k);
+        while at < self.len() {
+            let width = (self.len() - at).min(64);
+            let word = self.field(at, width as u32);
+            let zeros = width - u64::from(word.count_ones());
+            if left < zeros {
+                return Some(at + u64::from(place_in(!word, left as u32)));
+            }
+            left -= zeros;
             at += width;
         }
         None

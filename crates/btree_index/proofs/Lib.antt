@@ -4,3 +4,6 @@ pub mod Searches
 pub mod Seeks
 pub mod Descents
 pub mod Ascents
+pub mod Agreements
+pub mod Comparisons
+pub mod Extents

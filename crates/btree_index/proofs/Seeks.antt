@@ -7,7 +7,7 @@ use Rattle.std.proofs.lemmas.Bool.{cases_lt, cases_Bool, leb-true}
 use Rattle.std.proofs.lemmas.List.{length-append, drop_at, drop-drop}
 use Rattle.std.proofs.lemmas.List.FromFn.{length-map-range_with_len, get_or-map-range_with_len}
 use Rattle.std.proofs.Math.Nat.{mul-le-mul_right}
-use Rattle.btree_index.specs.Levels.{entries, level, levels, top_from, offset_bytes, levels_below, spelling, AreOffsets}
+use Rattle.btree_index.specs.Levels.{entries, level, levels, top_from, offset_bytes, levels_below, header, spelling, AreOffsets}
 use Rattle.btree_index.specs.Keys.{key_count, key_offset, key_offsets, IsLevel}
 use Rattle.btree_index.proofs.Spellings.{entry_of, entry_past, stride_some, length-offset_bytes, number_at, levels_suc}
 
@@ -35,7 +35,7 @@ fits_at [] i fits = omega arith
 fits_at (x ∷ xs) zero fits = fits.0
 fits_at (x ∷ xs) (suc i) fits = fits_at xs i fits.1
 
-all_fit : (f : ℕ → ℕ) (a n : ℕ) → ((k : ℕ) → f k < 2 ^ 64) → AreOffsets (map f (range_with_len a n))
+pub all_fit : (f : ℕ → ℕ) (a n : ℕ) → ((k : ℕ) → f k < 2 ^ 64) → AreOffsets (map f (range_with_len a n))
 all_fit f a zero fits = tt
 all_fit f a (suc n) fits = (fits a, all_fit f (a + 1) n fits)
 
@@ -43,11 +43,11 @@ level_fits : (offsets : List ℕ) (j : ℕ) → AreOffsets offsets → AreOffset
 unfolding level
 level_fits offsets j fits = all_fit (λ k. slice_index offsets (k * 16 ^ j)) 0 (entries (length offsets) j) (λ k. fits_at offsets (k * 16 ^ j) fits)
 
-length-level : (offsets : List ℕ) (j : ℕ) → length (level offsets j) ≡ entries (length offsets) j
+pub length-level : (offsets : List ℕ) (j : ℕ) → length (level offsets j) ≡ entries (length offsets) j
 unfolding level
 length-level offsets j = length-map-range_with_len (λ k. slice_index offsets (k * 16 ^ j)) 0 (entries (length offsets) j)
 
-level_reads : (words : List (List ℕ)) (j k : ℕ) → k < entries (key_count words) j → get_or (level (key_offsets words) j) k 0 ≡ key_offset words (k * 16 ^ j)
+pub level_reads : (words : List (List ℕ)) (j k : ℕ) → k < entries (key_count words) j → get_or (level (key_offsets words) j) k 0 ≡ key_offset words (k * 16 ^ j)
 unfolding level
 level_reads words j k lt =
     let len = length-key_offsets words in
@@ -78,7 +78,7 @@ next_part words bytes start j is =
     sym (drop-drop (8 * entries (key_count words) j) start bytes) ∙ ap (drop (8 * entries (key_count words) j)) is ∙ drop_at (offset_bytes here) (levels_below offsets j) (8 * entries (key_count words) j) len
 
 pub first_part : (words : List (List ℕ)) (bytes : List ℕ) → bytes ≡ spelling (key_offsets words) → drop 16 bytes ≡ levels_below (key_offsets words) (levels (key_count words))
-unfolding spelling
+unfolding spelling header
 first_part words bytes is =
     let offsets = key_offsets words in
     ap (drop 16) is ∙ ap (λ (n : ℕ). levels_below offsets (levels n)) (length-key_offsets words)

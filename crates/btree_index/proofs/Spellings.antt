@@ -10,7 +10,7 @@ use Rattle.std.proofs.lemmas.Grind.{div_ceil_times}
 use Rattle.std.proofs.Math.Nat.{mul-le-mul_right, pow-le-pow_right, one-le-pow}
 use Rattle.std.specs.Prelude.{slice_index}
 use Rattle.word_file.proofs.Numbers.{wide64}
-use Rattle.btree_index.specs.Levels.{entries, level, levels, top_from, offset_bytes, levels_below, spelling, offsets_at, offsets_in, AreOffsets, IsHeld}
+use Rattle.btree_index.specs.Levels.{entries, level, levels, top_from, offset_bytes, levels_below, header, spelling, offsets_at, offsets_in, AreOffsets, IsHeld}
 
 -- ---- entries
 
@@ -106,7 +106,7 @@ spelling_tail (x ∷ xs) =
     let offsets = x ∷ xs in
     let some = levels_some (length xs) in
     let below = levels_tail offsets some.0 in
-    let head = to_be_bytes w32 0x4147_4231 ++ to_be_bytes w32 (levels (length offsets)) ++ to_be_bytes w64 (length offsets) in
+    let head = header (length offsets) in
     (head ++ below.0, ap (λ (j : ℕ). head ++ levels_below offsets j) some.1 ∙ ap (λ (t : List ℕ). head ++ t) below.1 ∙ sym (append_assoc head below.0 (offset_bytes offsets)))
 
 -- ---- what is seen in a spelling
@@ -209,7 +209,7 @@ level_none front = sym (append-nil front)
 
 pub begun : (offsets out0 out1 out2 out3 : List ℕ) (n : ℕ) → n ≡ levels (length offsets) → out0 ≡ [] → out1 ≡ out0 ++ to_be_bytes w32 0x4147_4231 → out2 ≡ out1 ++ to_be_bytes w32 n → out3 ≡ out2 ++ to_be_bytes w64 (length offsets)
     → out3 ++ levels_below offsets n ≡ spelling offsets
-unfolding spelling
+unfolding spelling header
 begun offsets out0 out1 out2 out3 n n-is e0 e1 e2 e3 =
     let empty : out1 ≡ to_be_bytes w32 0x4147_4231 = e1 ∙ ap (λ (x : List ℕ). x ++ to_be_bytes w32 0x4147_4231) e0 in
     let two : out2 ≡ to_be_bytes w32 0x4147_4231 ++ to_be_bytes w32 n = e2 ∙ ap (λ (x : List ℕ). x ++ to_be_bytes w32 n) empty in
@@ -242,5 +242,5 @@ levels_none zero e = refl
 levels_none (suc m) e = omega (arith, levels_suc m)
 
 pub spelling_16 : (offsets bytes : List ℕ) → bytes ≡ spelling offsets → 16 ≤ length bytes
-unfolding spelling
+unfolding spelling header
 spelling_16 offsets bytes is = rw is (omega arith)

@@ -29,9 +29,13 @@ unfoldable pub levels_below : List ℕ → ℕ → List ℕ
 levels_below offsets zero = []
 levels_below offsets (suc j) = offset_bytes (level offsets j) ++ levels_below offsets j
 
--- `AGB1`, the number of levels, the number of keys, and the levels
+-- `AGB1`, the number of levels, and the number of keys
+unfoldable pub header : ℕ → List ℕ
+header n = to_be_bytes w32 0x4147_4231 ++ to_be_bytes w32 (levels n) ++ to_be_bytes w64 n
+
+-- the header and the levels
 unfoldable pub spelling : List ℕ → List ℕ
-spelling offsets = to_be_bytes w32 0x4147_4231 ++ to_be_bytes w32 (levels (length offsets)) ++ to_be_bytes w64 (length offsets) ++ levels_below offsets (levels (length offsets))
+spelling offsets = header (length offsets) ++ levels_below offsets (levels (length offsets))
 
 -- the offsets at the front of bytes
 unfoldable pub offsets_at : ℕ → List ℕ → List ℕ

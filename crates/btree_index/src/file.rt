@@ -1,16 +1,17 @@
-ghost use Rattle.std.specs.Prelude.{◌≡◌, ℕ, ◌+◌, ◌*◌, ◌<◌, ◌≤◌, length, slice_index, IfOk, OnOk, IfErr, Err, Some};
+ghost use Rattle.std.specs.Prelude.{◌≡◌, ℕ, ◌+◌, ◌*◌, ◌<◌, ◌≤◌, length, slice_index, IfOk, OnOk, Ok, Err, Some};
 ghost use Rattle.btree_index.specs.Keys.{IsPaired, key_count, key_offsets, KeysAscend, IsFirstNotBelow};
 ghost use Rattle.btree_index.specs.Levels.{levels, spelling};
 ghost use Rattle.word_file.specs.Difference.{first_difference};
-ghost use Rattle.word_file.specs.declared.access.AccessError.TheVariants.{Differs, Memory as NoMemory};
+ghost use Rattle.word_file.specs.declared.access.AccessError.TheVariants.{Differs};
 
+use crate::compare::difference;
 use crate::levels::{entries_of, levels_of, offsets_of, spell, u64_at};
 use crate::search::search;
 use agg_outside::{Bytes, Memory, Steps};
 use std::alloc::Global;
 use std::marker::Model;
 use std::sync::ledger::Ledger;
-use word_file::{AccessError, WordFile, first_difference};
+use word_file::{AccessError, WordFile};
 
 /// The B-tree accessor of a word file.
 #[derive(Debug, Drop)]
@@ -30,14 +31,16 @@ impl Model for BTreeFile {
     ghost invariant = { λ b. IsHeld b.count b.bytes };
 }
 
-fn hold(count: u64, bytes: Vec<u8>, offsets: &[u64]) -> BTreeFile
-    requires count { count ≡ length offsets.now }
-    requires bytes { bytes.items ≡ spelling offsets.now }
-    ensures { result ≡ offsets.now }
+/// The accessor of the word file, which these bytes are.
+fn accessor_of(words: &WordFile, bytes: Bytes) -> BTreeFile
+    requires { bytes ≡ spelling (key_offsets words.now.words) }
+    ensures { result ≡ key_offsets words.now.words }
 {
+    // That an offset has eight bytes comes with the length of the file.
+    let _length = words.bytes().len();
     BTreeFile {
-        count,
-        bytes: Bytes::from_vec(bytes),
+        count: words.count() / 2,
+        bytes,
     }
 }
 
@@ -49,23 +52,24 @@ impl BTreeFile {
     {
         let offsets = offsets_of(alloc, words)?;
         let bytes = spell(alloc, offsets.as_slice())?;
-        Ok(hold(offsets.len() as u64, bytes, offsets.as_slice()))
+        Ok(accessor_of(words, Bytes::from_vec(bytes)))
     }
 
-    /// The bytes as the accessor of the word file, where they are what `build` gives.
-    pub fn check(alloc: Global, bytes: Bytes, words: &WordFile) -> Result<BTreeFile, AccessError>
+    /// The bytes as the accessor of the word file, where they are what `build` gives. It takes no memory.
+    pub fn check(_alloc: Global, bytes: Bytes, words: &WordFile) -> Result<BTreeFile, AccessError>
         requires { IsPaired words.now.words }
         ensures ok { IfOk result (λ b. b ≡ key_offsets words.now.words) }
         // What is accepted is spelled so.
         ensures found { OnOk result (bytes ≡ spelling (key_offsets words.now.words)) }
-        // What is spelled so is refused for want of memory alone.
-        ensures only { bytes ≡ spelling (key_offsets words.now.words) → IfErr result (λ e. e ≡ NoMemory) }
-        // Where the bytes differ first.
+        // What is spelled so is accepted.
+        ensures only { bytes ≡ spelling (key_offsets words.now.words) → result ≡ Ok (key_offsets words.now.words) }
+        // Where the bytes differ first, it says so,
+        ensures differs { (at : ℕ) → first_difference bytes (spelling (key_offsets words.now.words)) ≡ Some at → result ≡ Err (Differs at) }
+        // and where it says so, they do.
         ensures exact { (at : ℕ) → result ≡ Err (Differs at) → first_difference bytes (spelling (key_offsets words.now.words)) ≡ Some at }
     {
-        let built = BTreeFile::build(alloc, words)?;
-        match first_difference(bytes.as_slice(), built.bytes()) {
-            None => Ok(built),
+        match difference(bytes.as_slice(), words) {
+            None => Ok(accessor_of(words, bytes)),
             Some(at) => Err(AccessError::Differs { at: at as u64 }),
         }
     }

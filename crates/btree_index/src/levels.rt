@@ -10,7 +10,7 @@ use std::alloc::Global;
 use word_file::WordFile;
 
 /// `AGB1`.
-const MAGIC: u32 = 0x4147_4231;
+pub(crate) const MAGIC: u32 = 0x4147_4231;
 
 pub(crate) fn u64_at(bytes: &[u8], at: usize) -> u64
     requires { at + 8 ≤ length bytes.now }

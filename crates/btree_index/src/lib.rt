@@ -1,6 +1,7 @@
 //! B-tree accessors of word files: the offsets of the keys, level over level.
 #![tactic(auto)]
 
+mod compare;
 mod file;
 mod levels;
 mod search;

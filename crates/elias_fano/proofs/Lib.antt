@@ -1,7 +1,10 @@
 mod Rows
 pub mod Lower
+pub mod Waiting
 pub mod Upper
 pub mod Places
+pub mod Bounds
+pub mod Marked
 pub mod Faults
 pub mod Widths
 pub mod Checked

@@ -2,9 +2,11 @@
 #![tactic(auto)]
 
 mod error;
+mod finding;
 mod header;
 mod iter;
 mod list;
+mod marks;
 mod opening;
 mod parts;
 mod writing;

@@ -4,7 +4,9 @@ ghost use Rattle.elias_fano.specs.Spelling.{IsListable, spelling, upper_len};
 ghost use Rattle.elias_fano.specs.Reading.{fault_in, item_fault, items_of, parts_in, IsFine};
 
 use crate::error::EfError;
+use crate::finding::first_from;
 use crate::iter::{EfBack, EfIter};
+use crate::marks::Marks;
 use crate::opening::{header_of, parts_of, unused_in};
 use crate::parts::Parts;
 use std::marker::Model;
@@ -13,17 +15,19 @@ use std::marker::Model;
 #[derive(Debug, Drop)]
 pub struct EfList<'a> {
     parts: Parts<'a>,
+    marks: Marks,
 }
 
 impl<'a> Model for EfList<'a> {
     ghost use Rattle.std.specs.Prelude.{List, ℕ};
-    ghost use Rattle.elias_fano.specs.Reading.{IsListed, items_of};
+    ghost use Rattle.elias_fano.specs.Reading.{items_of};
+    ghost use Rattle.elias_fano.specs.Marks.{IsMarked};
 
     ghost Value = { List ℕ };
 
     ghost view = { λ it. items_of it.parts };
 
-    ghost invariant = { λ it. IsListed it.parts };
+    ghost invariant = { λ it. IsMarked it.parts it.marks };
 }
 
 // What is wrong with the items and their ones.
@@ -75,12 +79,15 @@ fn checked(bytes: &[u8]) -> Result<EfList<'_>, EfError>
     let parts = parts_of(bytes, &header);
     match fault_of(&parts, header.last) {
         Some(fault) => Err(fault),
-        None => Ok(EfList { parts }),
+        None => {
+            let marks = Marks::of(&parts.upper);
+            Ok(EfList { parts, marks })
+        }
     }
 }
 
 impl<'a> EfList<'a> {
-    /// The list of a text, without a copy. Every byte is looked at once.
+    /// The list of a text, without a copy. Every item is looked at once.
     pub fn check(bytes: &'a [u8]) -> Result<EfList<'a>, EfError>
         requires { length bytes.now < 2 ^ 60 }
         // What is read is spelled so.
@@ -101,35 +108,24 @@ impl<'a> EfList<'a> {
         self.parts.count
     }
 
+    /// Goes through at most n / 10,000 + 2 words of a list of n items, all else by halving.
     pub fn get(&self, i: u64) -> u64
         requires { i < length self.now }
         ensures { result ≡ slice_index self.now i }
     {
-        let place = self.parts.upper.select_one(i).unwrap();
-        self.parts.item(i, place)
+        let one = self.marks.one(&self.parts.upper, i);
+        self.parts.item(i, one)
     }
 
-    /// The place and the value of the first item not below `at`.
+    /// The place and the value of the first item not below `at`. Goes through at most three times the
+    /// words of a `get` and ten more, all else by halving.
     pub fn seek(&self, at: u64) -> Option<(u64, u64)>
         ensures found { IfSome result (λ x. (x.0 < length self.now) × (x.1 ≡ slice_index self.now x.0) × (at ≤ x.1)) }
         ensures first { IfSome result (λ x. (k : ℕ) → k < x.0 → slice_index self.now k < at) }
         ensures none { IfNone result ((k : ℕ) → k < length self.now → slice_index self.now k < at) }
     {
-        let mut low = 0;
-        let mut high = self.len();
-        while low < high {
-            let middle = low + (high - low) / 2;
-            if self.get(middle) < at {
-                low = middle + 1;
-            } else {
-                high = middle;
-            }
-        }
-        if low < self.len() {
-            Some((low, self.get(low)))
-        } else {
-            None
-        }
+        let (place, one) = first_from(&self.parts, &self.marks, at)?;
+        Some((place, self.parts.item(place, one)))
     }
 
     /// The items from a place on; none from the end on.
@@ -138,7 +134,7 @@ impl<'a> EfList<'a> {
     {
         let parts = &self.parts;
         if place < parts.count {
-            let bit = parts.upper.select_one(place).unwrap();
+            let bit = self.marks.one(&parts.upper, place);
             EfIter::new(parts.again(), place, bit)
         } else {
             EfIter::new(parts.again(), parts.count, parts.upper.len())
@@ -151,7 +147,7 @@ impl<'a> EfList<'a> {
     {
         let parts = &self.parts;
         if place < parts.count {
-            let bit = parts.upper.select_one(place).unwrap();
+            let bit = self.marks.one(&parts.upper, place);
             EfBack::new(parts.again(), place, bit)
         } else {
             EfBack::new(parts.again(), parts.count, parts.upper.len())

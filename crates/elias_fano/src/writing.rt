@@ -1,4 +1,4 @@
-ghost use Rattle.std.specs.Prelude.{◌≡◌, ◌<◌, ◌≤◌, ◌/◌, ◌^◌, ◌++◌, length, IfOk};
+ghost use Rattle.std.specs.Prelude.{◌≡◌, ◌<◌, ◌≤◌, ◌/◌, ◌%◌, ◌^◌, ◌++◌, length, IfOk};
 ghost use Rattle.std.specs.Int.{w64, to_be_bytes};
 ghost use Rattle.std.specs.List.Sorted.{IsNonDecreasing};
 ghost use Rattle.elias_fano.specs.Spelling.{spelling, spelled, lower_bits, upper_bits, last_of};
@@ -8,15 +8,34 @@ use agg_outside::{Bytes, Memory};
 use bit_store::Bits;
 use std::alloc::Global;
 
+// Bits that wait to be pushed together: fewer than 64, as a number.
+const FULL: u32 = 63;
+
+fn low_of(value: u64, width: u32) -> u64
+    requires { width < 64 }
+    ensures { result ≡ value % 2 ^ width }
+{
+    value & ((1 << width) - 1)
+}
+
 // The low bits of each item.
 fn lower_of(alloc: Global, items: &[u64], width: u32) -> Result<Bits, Memory>
     requires { width < 64 }
     ensures { IfOk result (λ bits. bits ≡ lower_bits width items.now) }
 {
     let mut bits = Bits::new(alloc);
+    let mut word = 0u64;
+    let mut used = 0u32;
     for item in items {
-        bits.push(*item, width)?;
+        if used + width > FULL {
+            bits.push(word, used)?;
+            word = 0;
+            used = 0;
+        }
+        word += low_of(*item, width) << used;
+        used += width;
     }
+    bits.push(word, used)?;
     Ok(bits)
 }
 
@@ -28,13 +47,25 @@ fn upper_of(alloc: Global, items: &[u64], width: u32) -> Result<Bits, Memory>
     ensures { IfOk result (λ bits. bits ≡ upper_bits width items.now) }
 {
     let mut bits = Bits::new(alloc);
+    let mut word = 0u64;
+    let mut used = 0u32;
     let mut high = 0;
     for item in items {
         let next = *item >> width;
-        bits.push_zeros(next - high)?;
-        bits.push(1, 1)?;
+        let rise = next - high;
+        if rise < u64::from(FULL - used) {
+            used += rise as u32;
+            word += 1 << used;
+            used += 1;
+        } else {
+            bits.push(word, used)?;
+            bits.push_zeros(rise)?;
+            word = 1;
+            used = 1;
+        }
         high = next;
     }
+    bits.push(word, used)?;
     Ok(bits)
 }
 

@@ -106,6 +106,13 @@ last_line-lines : (limit : ℕ) (line : List ℕ) → map (piece_of limit) (last
 last_line-lines limit [] = refl
 last_line-lines limit (b ∷ line) = rw (ne_eqb (length (b ∷ line)) 0 (omega arith)) refl
 
+-- one more line feed makes one line of all that is left
+pub next_cut-feed : (uncut : Uncut) → (next_cut uncut).0 ≡ None → pieces_of uncut.limit (uncut.left ++ 10 ∷ []) ≡ piece_of uncut.limit uncut.left ∷ []
+unfolding next_cut
+next_cut-feed uncut is =
+    let none = none_from_position uncut.left (cut_at-none uncut.limit uncut.left (position is_feed uncut.left) is) in
+    ap (map (piece_of uncut.limit)) (lines_from-line uncut.left [] [] none)
+
 -- then the last line is all that is left
 pub rest_cut-lines : (uncut : Uncut) → (next_cut uncut).0 ≡ None → pieces_of uncut.limit uncut.left ≡ option_to_list (rest_cut uncut)
 unfolding next_cut rest_cut

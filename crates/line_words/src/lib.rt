@@ -13,3 +13,4 @@ pub use line_cut::{Cutting, LineCut};
 pub use lines::without_cr;
 pub use reply::Reply;
 pub use request::{LineError, Request};
+pub use words::number;

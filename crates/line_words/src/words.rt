@@ -49,8 +49,8 @@ impl<'a> Words<'a> {
     }
 }
 
-/// The number that a word is. More than 19 digits, or one above 2^63 - 1, are no number.
-pub(crate) fn number(word: &[u8]) -> Result<u64, LineError>
+/// The number that a word is: 1 to 19 decimal digits, at most 2^63 - 1. All else is `Syntax`.
+pub fn number(word: &[u8]) -> Result<u64, LineError>
     ensures exact { result ≡ ok_or (number_of word.now) errors.Syntax }
     ensures within { IfOk result (λ n. n < 2 ^ 63) }
 {

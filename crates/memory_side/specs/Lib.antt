@@ -1,3 +1,4 @@
 pub mod Memory
+pub mod MemoryDisks
 pub mod MemoryKeepers
 pub mod RowTree

@@ -2,6 +2,7 @@
 #![tactic(auto)]
 
 mod calls;
+mod mem_disk;
 mod mem_keeper;
 mod mem_sink;
 mod mem_source;
@@ -20,6 +21,7 @@ mod sure_source;
 mod tests;
 mod tree_writes;
 
+pub use mem_disk::MemDisk;
 pub use mem_keeper::MemKeeper;
 pub use mem_sink::MemSink;
 pub use mem_source::MemSource;

@@ -89,6 +89,42 @@ fn a_disk_lists_in_order_and_renames_over_a_file(rt: HostRuntime) -> Result<(), 
 }
 
 #[test]
+fn a_disk_that_fails_to_read_reads_the_file_later(rt: HostRuntime) -> Result<(), Fail> {
+    let alloc = rt.alloc();
+    let start = FileMap::new(alloc);
+    let mut disk = MemDisk::new(alloc, &start, &[2])?;
+    assert!(rt; disk.write_new(alloc, b"a", b"1").is_ok());
+    assert!(rt; disk.files().find(b"a").is_some());
+    assert!(rt; disk.read(alloc, b"a").is_err());
+    assert!(rt; disk.files().find(b"a").is_some());
+    assert!(rt;
+        disk.read(alloc, b"a")
+            .is_ok_and(|bytes| bytes.as_slice() == b"1".as_slice())
+    );
+    Ok(())
+}
+
+#[test]
+fn a_call_of_a_disk_that_fails_changes_nothing(rt: HostRuntime) -> Result<(), Fail> {
+    let alloc = rt.alloc();
+    let start = FileMap::new(alloc);
+    let mut disk = MemDisk::new(alloc, &start, &[2, 4, 6, 8])?;
+    assert!(rt; disk.write_new(alloc, b"a", b"1").is_ok());
+    assert!(rt; disk.write_new(alloc, b"c", b"").is_err());
+    assert_eq!(rt; disk.list(alloc).map_or(0, |names| names.len()), 1);
+    assert!(rt; disk.files().find(b"a").is_some());
+    assert!(rt; disk.rename(alloc, b"a", b"b").is_err());
+    assert!(rt; disk.files().find(b"a").is_some());
+    assert!(rt; disk.rename(alloc, b"a", b"b").is_ok());
+    assert!(rt; disk.remove(alloc, b"b").is_err());
+    assert!(rt; disk.files().find(b"b").is_some());
+    assert!(rt; disk.remove(alloc, b"b").is_ok());
+    assert!(rt; disk.list(alloc).is_err());
+    assert_eq!(rt; disk.files().len(), 0);
+    Ok(())
+}
+
+#[test]
 fn doors_give_out_each_link_once_and_take_it_back(rt: HostRuntime) -> Result<(), Fail> {
     let alloc = rt.alloc();
     let mut inputs = Keys::new(alloc);

@@ -22,7 +22,8 @@ invariant_of-result c =
     let h = c.in_ok-header.ensures.ok in
     let fine : item_fault (last_in c.args.bytes.now) (parts_in c.args.bytes.now) ≡ None = sym (c.in-None.ensures ∙ ap (λ p. item_fault c.in_ok-header.header.last p) c.parts_of-parts.ensures ∙ ap (λ n. item_fault n (parts_in c.args.bytes.now)) h.last) in
     let bytes : IsBytes c.args.bytes.now = λ i. omega (arith, c.type_inv.bytes i) in
-    rw c.parts_of-parts.ensures (listed c.args.bytes.now bytes c.requires h.size h.narrow fine)
+    let marks = rw c.parts_of-parts.ensures at c.of-marks.ensures in
+    rw c.parts_of-parts.ensures (record { listed = listed c.args.bytes.now bytes c.requires h.size h.narrow fine; marks = marks })
 
 pub returns-in-Some-fault_of-clause-err : goal.returns-in-Some-fault_of-clause-err
 returns-in-Some-fault_of-clause-err c =

@@ -1,11 +1,20 @@
-use Rattle.std.proofs.Common.{◌≡◌, ◌+◌, ◌-◌, ◌/◌, ◌^◌, ◌++◌, ◌∷◌, [], ◌∙◌, ap, sym, arith, ℕ, true, false, replicate, take, get_or}
-use Rattle.std.proofs.lemmas.List.{take_all, take_more, append_assoc}
+use Rattle.std.proofs.Common.{◌≡◌, ◌+◌, ◌-◌, ◌/◌, ◌^◌, ◌<◌, ◌++◌, ◌∷◌, [], ◌∙◌, ap, sym, arith, ℕ, true, false, replicate, take, get_or}
+use Rattle.std.proofs.lemmas.Nat.{one_shl}
+use Rattle.std.proofs.lemmas.List.{take_all, take_more}
 use Rattle.bit_store.specs.Bits.{low_bits}
-use Rattle.elias_fano.proofs.Upper.{walk, top, walk-all, walk-push, top-push, high_le, low-one, walk-nil, top-nil}
+use Rattle.elias_fano.proofs.Upper.{walk, top, walk-all, walk-push, top-push, high_le, walk-nil, top-nil}
+use Rattle.elias_fano.proofs.Waiting.{no_bits, rise_joined, rise_flushed}
+use Rattle.elias_fano.proofs.writing.upper_of.Goals.{then-rise-from, else-rise-from+in_ok-push+in_ok-push_zeros}
 use Rattle.elias_fano.proofs.writing.upper_of.Goals as goal
 
 pub loop-item-init : goal.loop-item-init
-loop-item-init c = record { walked = c.new-bits.ensures ∙ sym (walk-nil c.args.width 0); reached = sym (top-nil c.args.width 0); low = λ k le lt. omega arith }
+loop-item-init c = record {
+  narrow = omega arith;
+  small = omega arith;
+  walked = no_bits c.new-bits.result 0 ∙ c.new-bits.ensures ∙ sym (walk-nil c.args.width 0);
+  reached = sym (top-nil c.args.width 0);
+  low = λ k le lt. omega arith;
+}
 
 pub loop-item-preserved : goal.loop-item-preserved
 loop-item-preserved c =
@@ -13,17 +22,32 @@ loop-item-preserved c =
     let items = c.args.items.now in
     let i : ℕ = c.loop-item.item-index in
     let v : ℕ = get_or items i 0 in
-    let front = take i items in
-    let more : take (i + 1) items ≡ front ++ v ∷ [] = take_more items i 0 c.loop-item-test.true in
-    let zeros = replicate (v / 2 ^ l - c.loop-item.high) false in
-    let first : c.push_zeros.new.self ≡ walk l 0 front ++ zeros = c.in_ok-push_zeros.ensures.ok ∙ ap (λ bits. bits ++ zeros) c.loop-item.invariant.walked in
-    let both : c.push.new.self ≡ walk l 0 front ++ (zeros ++ true ∷ []) = c.in_ok-push.ensures.ok ∙ ap (λ bits. bits ++ low_bits 1 1) first ∙ ap (λ one. (walk l 0 front ++ zeros) ++ one) low-one ∙ append_assoc (walk l 0 front) zeros (true ∷ []) in
-    let step : walk l 0 (front ++ v ∷ []) ≡ walk l 0 front ++ (zeros ++ true ∷ []) = walk-push l 0 front v ∙ ap (λ h. walk l 0 front ++ (replicate (v / 2 ^ l - h) false ++ true ∷ [])) (sym c.loop-item.invariant.reached) in
+    let rise : ℕ = v / 2 ^ l - c.loop-item.high in
+    let old = c.loop-item in
+    let new = c.if-rise-from in
+    let front = walk l 0 (take i items) in
+    let more : take (i + 1) items ≡ take i items ++ v ∷ [] = take_more items i 0 c.loop-item-test.true in
+    let step : walk l 0 (take (i + 1) items) ≡ front ++ (replicate rise false ++ true ∷ []) =
+    ap (walk l 0) more ∙ walk-push l 0 (take i items) v ∙ ap (λ h. front ++ (replicate (v / 2 ^ l - h) false ++ true ∷ [])) (sym c.loop-item.invariant.reached) in
+    let high : new.high ≡ v / 2 ^ l = elim c.if-rise-from.branch [ then-rise-from w ↦ w.high-is | else-rise-from+in_ok-push+in_ok-push_zeros w ↦ w.high-is ] in
+    let narrow : new.used < 64 = elim c.if-rise-from.branch [
+      | then-rise-from w ↦ omega (arith, w.used-is, w.if-rise-from.true, c.from.ensures)
+      | else-rise-from+in_ok-push+in_ok-push_zeros w ↦ omega (arith, w.used-is)
+    ] in
+    let both : (new.word < 2 ^ new.used) × (new.bits ++ low_bits new.used new.word ≡ front ++ (replicate rise false ++ true ∷ [])) = elim c.if-rise-from.branch [
+      | then-rise-from w ↦
+          let fits : old.used + rise < 64 = omega (arith, w.if-rise-from.true, c.from.ensures) in
+          rise_joined old.used old.word rise new.used new.word _ old.bits new.bits front c.loop-item.invariant.small w.used-is w.word-is (one_shl (old.used + rise) 64 fits) w.bits-is c.loop-item.invariant.walked
+      | else-rise-from+in_ok-push+in_ok-push_zeros w ↦
+          rise_flushed old.used old.word rise new.used new.word old.bits w.push.new.self w.push_zeros.new.self new.bits front w.in_ok-push.ensures.ok w.in_ok-push_zeros.ensures.ok w.used-is w.word-is w.bits-is c.loop-item.invariant.walked
+    ] in
     record {
-      walked = both ∙ sym step ∙ ap (walk l 0) (sym more);
-      reached = sym (ap (top l 0) more ∙ top-push l 0 front v);
-      low = λ k le lt. high_le l v (get_or items k 0) (c.requires.ascends i k 0 (omega arith) lt);
+      narrow = narrow;
+      small = both.0;
+      walked = both.1 ∙ sym step;
+      reached = high ∙ sym (ap (top l 0) more ∙ top-push l 0 (take i items) v);
+      low = λ k le lt. omega (arith, high, high_le l v (get_or items k 0) (c.requires.ascends i k 0 (omega arith) lt));
     }
 
 pub returns : goal.returns
-returns c = c.loop-item.invariant.walked ∙ ap (walk c.args.width 0) (take_all c.loop-item.item-index c.args.items.now (omega arith)) ∙ walk-all c.args.width c.args.items.now c.requires.some c.requires.ascends
+returns c = c.in_ok-push-2.ensures.ok ∙ c.loop-item.invariant.walked ∙ ap (walk c.args.width 0) (take_all c.loop-item.item-index c.args.items.now (omega arith)) ∙ walk-all c.args.width c.args.items.now c.requires.some c.requires.ascends

@@ -1,4 +1,4 @@
-use Rattle.std.proofs.Common.{◌≤◌, ◌+◌, List, ℕ, length}
+use Rattle.std.proofs.Common.{◌≤◌, ◌+◌, List, ℕ, length, Option}
 use Rattle.agg_session.specs.State.{State}
 use Rattle.agg_session.specs.Served.{IsServed, IsAnswered}
 use Rattle.agg_session.proofs.served.Served.answer_lines.Given as goal
@@ -7,7 +7,7 @@ abbrev pub invariant-loop : goal.invariant-loop
 invariant-loop g l = record {
   sound : IsServed g.K.Keeper.held l.limits l.self;
   lines : l.self.lines + length l.self.cut.left ≤ l.initial.self.lines + length l.initial.self.cut.left;
-  answered : (start : State) (text before : List ℕ) → IsAnswered g.K.Keeper.held l.limits l.initial.self (g.O.Sink.bytes l.initial.sink) start text before → IsAnswered g.K.Keeper.held l.limits l.self (g.O.Sink.bytes l.sink) start text before;
+  answered : (start : State) (first : Option (List ℕ)) (text : List ℕ) → IsAnswered g.K.Keeper.held l.limits l.initial.self first (g.O.Sink.bytes l.initial.sink) start text → IsAnswered g.K.Keeper.held l.limits l.self first (g.O.Sink.bytes l.sink) start text;
   keeper : g.K.Keeper.faults l.initial.self.session.store.keeper ≤ g.K.Keeper.faults l.self.session.store.keeper;
   written : g.O.Sink.faults l.initial.sink ≤ g.O.Sink.faults l.sink;
 }

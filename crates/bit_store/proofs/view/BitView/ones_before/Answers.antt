@@ -1,33 +1,6 @@
-use Rattle.std.proofs.Common.{arith, sym, ap, ◌≡◌, ◌+◌, ◌-◌, take}
-use Rattle.std.proofs.lemmas.List.{length-take}
-use Rattle.bit_store.specs.Bits.{ones_of}
-use Rattle.bit_store.proofs.Numbers.{ones_of-le}
-use Rattle.bit_store.proofs.Views.{ones_field, ones_of-nil}
+use Rattle.std.proofs.Common.{arith}
+use Rattle.bit_store.proofs.Views.{ones_of-nil}
 use Rattle.bit_store.proofs.view.BitView.ones_before.Goals as goal
 
-pub loop-at-init : goal.loop-at-init
-loop-at-init c = record { within = omega arith; counted = sym ones_of-nil }
-
-pub overflow_add-total : goal.overflow_add-total
-overflow_add-total c =
-    let bits = c.args.self.now in
-    let e = ones_field c.loop-at.at 64 c.field.result bits c.field.ensures in
-    record { fits = omega (arith, e, c.from-total.ensures, c.loop-at.invariant.counted, ones_of-le (take (c.loop-at.at + 64) bits), length-take (c.loop-at.at + 64) bits, c.ranges.i.fits) }
-
-pub loop-at-preserved : goal.loop-at-preserved
-loop-at-preserved c =
-    let e = ones_field c.loop-at.at 64 c.field.result c.args.self.now c.field.ensures in
-    record { within = omega arith; counted = omega (arith, e, c.from-total.ensures, c.loop-at.invariant.counted) }
-
-pub overflow_add-result : goal.overflow_add-result
-overflow_add-result c =
-    let bits = c.args.self.now in
-    let e = ones_field c.loop-at.at (c.args.i - c.loop-at.at) c.field-2.result bits c.field-2.ensures in
-    record { fits = omega (arith, e, c.from.ensures, c.loop-at.invariant.counted, ones_of-le (take (c.loop-at.at + (c.args.i - c.loop-at.at)) bits), length-take (c.loop-at.at + (c.args.i - c.loop-at.at)) bits, c.ranges.i.fits) }
-
 pub returns : goal.returns
-returns c =
-    let bits = c.args.self.now in
-    let e = ones_field c.loop-at.at (c.args.i - c.loop-at.at) c.field-2.result bits c.field-2.ensures in
-    let whole : c.loop-at.at + (c.args.i - c.loop-at.at) ≡ c.args.i = omega (arith, c.loop-at.invariant.within) in
-    omega (arith, ap (λ n. ones_of (take n bits)) whole, e, c.from.ensures, c.loop-at.invariant.counted)
+returns c = omega (arith, c.ones_between.ensures, ones_of-nil)

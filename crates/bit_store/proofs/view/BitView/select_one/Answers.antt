@@ -1,22 +1,19 @@
-use Rattle.std.proofs.Common.{arith, ◌≤◌, ◌+◌, length}
-use Rattle.bit_store.proofs.Views.{Placed, placed, ones_field, ones_of-nil}
+use Rattle.std.proofs.Common.{◌≡◌, ◌≤◌, ◌+◌, ℕ, List, Bool, take, Option, Some, None, arith}
+use Rattle.std.specs.Prelude.{IfSome, IfNone}
+use Rattle.bit_store.specs.Bits.{ones_of, IsOneAt}
+use Rattle.bit_store.proofs.Views.{ones_of-nil}
 use Rattle.bit_store.proofs.view.BitView.select_one.Goals as goal
 
-pub loop-at-init : goal.loop-at-init
-loop-at-init c = record { within = omega arith; counted = omega (arith, ones_of-nil) }
+found : (bits : List Bool) (k : ℕ) (r : Option ℕ) → IfSome r (λ p. (0 ≤ p) × IsOneAt bits p × (ones_of (take p bits) ≡ ones_of (take 0 bits) + k)) → IfSome r (λ p. IsOneAt bits p × (ones_of (take p bits) ≡ k))
+found bits k (Some p) f = (f.1, omega (arith, f.2, ones_of-nil))
+found bits k None f = tt
 
-found : (c : goal.After-from) → Placed c.args.self.now c.loop-at.at c.min-width.result c.place_in.result c.loop-at.left
-found c =
-    let within : c.loop-at.at + c.min-width.result ≤ length c.args.self.now = omega arith in
-    placed c.args.self.now c.loop-at.at c.min-width.result c.field-word.result c.place_in.result c.loop-at.left within c.field-word.ensures c.place_in.ensures
+none : (bits : List Bool) (k : ℕ) (r : Option ℕ) → IfNone r (ones_of bits ≤ ones_of (take 0 bits) + k) → IfNone r (ones_of bits ≤ k)
+none bits k (Some p) f = tt
+none bits k None f = omega (arith, f, ones_of-nil)
 
-pub overflow_add-result : goal.overflow_add-result
-overflow_add-result c = let f = found c in record { fits = omega (arith, f.within, c.from.ensures) }
+pub returns-clause-found : goal.returns-clause-found
+returns-clause-found c = found c.args.self.now c.args.k c.select_one_from.result c.select_one_from.ensures.found
 
-pub returns-then-left-ones-clause-found : goal.returns-then-left-ones-clause-found
-returns-then-left-ones-clause-found c = let f = found c in rw c.from.ensures (f.one, omega (arith, f.before, c.loop-at.invariant.counted))
-
-pub loop-at-preserved : goal.loop-at-preserved
-loop-at-preserved c =
-    let e = ones_field c.loop-at.at c.min-width.result c.field-word.result c.args.self.now c.field-word.ensures in
-    record { within = omega arith; counted = omega (arith, e, c.from-ones.ensures, c.loop-at.invariant.counted) }
+pub returns-clause-none : goal.returns-clause-none
+returns-clause-none c = none c.args.self.now c.args.k c.select_one_from.result c.select_one_from.ensures.none

@@ -1,0 +1,128 @@
+ghost use Rattle.std.specs.Prelude.{◌≡◌, ◌≤◌, ◌^◌, Some, IfOk};
+ghost use Rattle.agg_session.specs.Top.{empty_held};
+ghost use Rattle.memory_side.specs.MemoryKeepers.{mem_held};
+
+use crate::tests::{FIRST_PATH, FIRST_REPLIES};
+use crate::*;
+use agg_outside::*;
+use memory_side::*;
+use std::alloc::Global;
+use std::process::Abort;
+use std::test::Fail;
+
+// A keeper without a row, of which these calls fail.
+fn empty_keeper(alloc: Global, fails: &[u64]) -> Result<MemKeeper, Memory>
+    ensures { IfOk result (λ k. mem_held k ≡ empty_held) }
+{
+    let rows = KeeperStart {
+        rows: Rowlist::new(alloc),
+        floor: 0,
+    };
+    MemKeeper::new(alloc, &rows, fails)
+}
+
+// How a run at the usual step size ends, and how many rows it leaves.
+fn ends<I: Source, O: Sink>(
+    alloc: Global,
+    limits: &Limits,
+    keeper_fails: &[u64],
+    source: &mut I,
+    sink: &mut O,
+) -> Result<(Status, usize), Memory>
+    requires limit { limits.now.content ≤ 2 ^ 28 }
+    requires bytes { limits.now.bytes ≤ 2 ^ 40 }
+{
+    let keeper = empty_keeper(alloc, keeper_fails)?;
+    let disk = SureDisk::new(alloc, &FileMap::new(alloc))?;
+    let ended = run_plain(alloc, disk, keeper, 1_562_500, limits, source, sink);
+    Ok((ended.status, ended.keeper.rows().len()))
+}
+
+#[test]
+fn a_source_that_fails_leaves_the_replies_to_whole_lines(rt: HostRuntime) -> Result<(), Fail> {
+    let alloc = rt.alloc();
+    let mut source = MemSource::new(alloc, b"tx 1\nput acc", &[2])?;
+    let mut sink = SureSink::new(alloc, &[])?;
+    let end = ends(alloc, &Limits::usual(), &[], &mut source, &mut sink)?;
+    assert_eq!(rt; end, (Status::SourceFault, 0));
+    assert_eq!(rt; sink.bytes(), b"ok\n".as_slice());
+    Ok(())
+}
+
+#[test]
+fn as_many_bytes_are_taken_as_may_be(rt: HostRuntime) -> Result<(), Fail> {
+    let alloc = rt.alloc();
+    let limits = Limits {
+        bytes: 8,
+        ..Limits::usual()
+    };
+    let mut source = SureSource::new(alloc, b"tx 0\ntx 1\n")?;
+    let mut sink = SureSink::new(alloc, &[])?;
+    let end = ends(alloc, &limits, &[], &mut source, &mut sink)?;
+    assert_eq!(rt; end, (Status::Long, 0));
+    assert_eq!(rt; sink.bytes(), b"ok\n".as_slice());
+    Ok(())
+}
+
+#[test]
+fn a_keeper_that_fails_leaves_the_rows_of_what_was_answered(rt: HostRuntime) -> Result<(), Fail> {
+    let alloc = rt.alloc();
+    let failed = [(1, 0, 6), (2, 1, 31), (3, 1, 40)];
+    for (call, rows, written) in failed {
+        let mut source = SureSource::new(alloc, FIRST_PATH)?;
+        let mut sink = SureSink::new(alloc, &[])?;
+        let end = ends(alloc, &Limits::usual(), &[call], &mut source, &mut sink)?;
+        assert_eq!(rt; end, (Status::KeeperFault, rows));
+        assert_eq!(rt; sink.bytes(), &FIRST_REPLIES[..written]);
+    }
+    Ok(())
+}
+
+// Takes at most three bytes a call.
+#[derive(Drop)]
+struct Narrow {
+    sink: MemSink,
+}
+
+impl Sink for Narrow {
+    ghost use Rattle.std.specs.Prelude.{Some};
+
+    ghost faults = { λ s. s.sink.count.faults };
+
+    ghost bytes = { λ s. Some s.sink.bytes };
+
+    fn put(&mut self, piece: &[u8]) -> Result<usize, SinkError> {
+        let most = piece.len().min(3);
+        self.sink.put(&piece[..most])
+    }
+}
+
+#[test]
+fn a_sink_that_fails_has_a_first_part_of_the_replies(rt: HostRuntime) -> Result<(), Fail> {
+    let alloc = rt.alloc();
+    // How much is written before each call; the third begins the reply to the commit.
+    let written = [
+        0, 3, 6, 9, 12, 15, 18, 20, 23, 26, 29, 31, 34, 37, 40, 43, 45,
+    ];
+    for (i, written) in written.into_iter().enumerate() {
+        let mut source = SureSource::new(alloc, FIRST_PATH)?;
+        let sink = MemSink::new(alloc, &[], &[i as u64 + 1])?;
+        let mut narrow = Narrow { sink };
+        let end = ends(alloc, &Limits::usual(), &[], &mut source, &mut narrow)?;
+        assert_eq!(rt; end, (Status::SinkFault, if i < 2 { 0 } else { 1 }));
+        assert!(rt; FIRST_REPLIES.starts_with(narrow.sink.bytes()));
+        assert_eq!(rt; narrow.sink.bytes().len(), written);
+    }
+    Ok(())
+}
+
+#[test]
+fn an_empty_input_is_answered_with_nothing(rt: HostRuntime) -> Result<(), Fail> {
+    let alloc = rt.alloc();
+    let mut source = SureSource::new(alloc, b"")?;
+    let mut sink = SureSink::new(alloc, &[])?;
+    let end = ends(alloc, &Limits::usual(), &[], &mut source, &mut sink)?;
+    assert_eq!(rt; end, (Status::Done, 0));
+    assert_eq!(rt; sink.bytes(), b"".as_slice());
+    Ok(())
+}

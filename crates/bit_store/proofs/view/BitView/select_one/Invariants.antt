@@ -1,9 +1,0 @@
-use Rattle.std.proofs.Common.{◌≡◌, ◌+◌, ◌-◌, ◌≤◌, take, length}
-use Rattle.bit_store.specs.Bits.{ones_of}
-use Rattle.bit_store.proofs.view.BitView.select_one.Given as goal
-
-abbrev pub invariant-loop-at : goal.invariant-loop-at
-invariant-loop-at l = record { within : l.at ≤ length l.self; counted : l.k ≡ l.left + ones_of (take l.at l.self) }
-
-abbrev pub decreases-loop-at : goal.decreases-loop-at
-decreases-loop-at l = length l.self - l.at

@@ -1,0 +1,5 @@
+pub mod Built
+pub mod Checked
+pub mod Held
+pub mod LookBack
+pub mod Words

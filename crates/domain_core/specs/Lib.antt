@@ -1,0 +1,2 @@
+pub mod KvFile
+pub mod KvFileLaws

@@ -1,0 +1,19 @@
+//! Files of a domain: the values of its keys at the end of a range of steps.
+#![tactic(auto)]
+
+mod build;
+mod check;
+mod kv_file;
+mod newest;
+mod parts;
+mod step;
+
+pub use agg_model::{Pair, Pairs};
+pub use build::{build_kv, build_step, file_laws, kv_tag};
+pub use check::are_pairs;
+pub use kv_file::KvFile;
+pub use newest::newest_value;
+pub use step::step_pairs;
+
+#[cfg(test)]
+mod tests;
