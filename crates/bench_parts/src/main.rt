@@ -2,11 +2,13 @@
 //! many items, and prints a checksum.
 #![tactic(auto)]
 
+mod hashed;
 mod lists;
 mod ordered;
 mod words;
 
 use agg_outside::Memory;
+use hashed::sum_of_hashed;
 use lists::sum_of_lists;
 use ordered::sum_of_ordered;
 use std::env;
@@ -30,6 +32,9 @@ fn sum_of_part<R: AllocGlobal + Env>(rt: &R) -> Result<Option<u64>, Memory> {
     };
     match part.as_str() {
         "words" => Ok(Some(sum_of_words::<Brand>(rt.alloc(), count, Blank::new(1))?)),
+        "hashed_pairs" | "hashed" | "hashed_find" => {
+            Ok(Some(sum_of_hashed(rt.alloc(), part.as_str(), count)?))
+        }
         "lists" | "lists_encode" | "lists_get" | "lists_seek" => {
             Ok(Some(sum_of_lists(rt.alloc(), part.as_str(), count)?))
         }

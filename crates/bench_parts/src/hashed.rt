@@ -1,0 +1,175 @@
+//! Hash accessors: so many keys of 20 bytes in a word file, their accessor, and a look for each.
+ghost use Rattle.std.specs.Prelude.{◌≡◌, ℕ, ◌+◌, ◌<◌, ◌≤◌, ◌^◌, [], slice_index_or, IsTrue, IfSome};
+ghost use Rattle.std.specs.Option.{ForSome};
+ghost use Rattle.word_file.specs.Spelling.{StartsAt, IsPlace, offset_of};
+ghost use Rattle.recsplit_index.specs.Keys.{IsPaired, IsBelow, KeysAscend, KeysDiffer};
+ghost use Rattle.recsplit_index.specs.Index.{index_of};
+
+use agg_outside::{Memory, Steps};
+use recsplit_index::HashIndex;
+use std::alloc::Global;
+use std::marker::Brand;
+use std::sync::ledger::{Blank, Ledger};
+use word_file::{Tag, WordFile, WordWriter};
+
+const TRIES: u32 = 65_536;
+
+const TAG: Tag = Tag {
+    entity: 0,
+    kind: 0,
+    version: 1,
+    step: 1,
+    from: 0,
+    to: 1,
+};
+
+fn written(alloc: Global, count: u64) -> Result<WordFile, Memory> {
+    let mut writer = WordWriter::new(alloc, TAG)?;
+    let mut key = [0u8; 20];
+    for i in 0..count {
+        key[..8].copy_from_slice(&i.to_be_bytes());
+        writer.push(&key)?;
+        writer.push(&[])?;
+    }
+    Ok(writer.finish())
+}
+
+fn key_after(words: &WordFile, at: u64) -> Option<u64>
+    requires { StartsAt words.now.words at }
+    ensures { (i : ℕ) → IsPlace words.now.words at i → result ≡ offset_of words.now.words (i + 2) }
+{
+    match words.next(at) {
+        Some(value) => words.next(value),
+        None => None,
+    }
+}
+
+fn is_less<L: Ledger>(words: &WordFile, key: u64, next: u64, steps: &mut Steps<L>) -> bool
+    requires key { StartsAt words.now.words key }
+    requires next { StartsAt words.now.words next }
+    ensures { IsTrue result → (i j : ℕ) → IsPlace words.now.words key i → IsPlace words.now.words next j → IsBelow (slice_index_or words.now.words i []) (slice_index_or words.now.words j []) }
+{
+    let one = words.word_at(key, steps);
+    let other = words.word_at(next, steps);
+    one.cmp(&other).is_lt()
+}
+
+fn goes_up<L: Ledger>(words: &WordFile, key: u64, next: Option<u64>, steps: &mut Steps<L>) -> bool
+    requires key { StartsAt words.now.words key }
+    requires next { ForSome next (λ after. StartsAt words.now.words after) }
+    ensures { IsTrue result → IfSome next (λ after. (i j : ℕ) → IsPlace words.now.words key i → IsPlace words.now.words after j → IsBelow (slice_index_or words.now.words i []) (slice_index_or words.now.words j [])) }
+{
+    match next {
+        None => true,
+        Some(after) => is_less(words, key, after, steps),
+    }
+}
+
+fn keys_ascend<L: Ledger>(words: &WordFile, steps: &mut Steps<L>) -> bool
+    requires { IsPaired words.now.words }
+    ensures { IsTrue result → KeysAscend words.now.words }
+{
+    // That there are fewer than 2^64 words comes with their number.
+    let _count = words.count();
+    let mut last = words.first();
+    let mut place = 0u64;
+    while let Some(key) = last {
+        let next = key_after(words, key);
+        if !goes_up(words, key, next, steps) {
+            return false;
+        }
+        last = next;
+        place += 1;
+    }
+    true
+}
+
+fn keys_differ<L: Ledger>(words: &WordFile, steps: &mut Steps<L>) -> bool
+    requires { IsPaired words.now.words }
+    ensures { IsTrue result → KeysDiffer words.now.words }
+{
+    keys_ascend(words, steps)
+}
+
+fn is_paired(words: &WordFile) -> bool
+    ensures { IsTrue result → IsPaired words.now.words }
+{
+    words.count() / 2 * 2 == words.count()
+}
+
+fn find<L: Ledger>(
+    index: &HashIndex,
+    words: &WordFile,
+    tries: u32,
+    key: &[u8],
+    steps: &mut Steps<L>,
+) -> Option<u64>
+    requires tries { tries ≤ 2 ^ 16 }
+    requires of_words { index.now ≡ index_of tries words.now.words }
+{
+    index.find(words, key, steps)
+}
+
+// The sum of the offsets of all keys, each looked for.
+fn found<L: Ledger>(words: &WordFile, index: &HashIndex, tries: u32, steps: &mut Steps<L>) -> u64
+    requires tries { tries ≤ 2 ^ 16 }
+    requires of_words { index.now ≡ index_of tries words.now.words }
+{
+    let mut at = words.first();
+    let mut sum = 0u64;
+    for i in 0..words.count() {
+        if let Some(here) = at {
+            if i % 2 == 0 {
+                let key = words.word_at(here, steps);
+                let offset = find(index, words, tries, key, steps);
+                sum = sum.wrapping_add(offset.unwrap_or(0));
+            }
+            at = words.next(here);
+        }
+    }
+    sum
+}
+
+// How far a run goes: to the word file, to its accessor, or to a look for each key.
+#[derive(Clone, Copy)]
+enum Stage {
+    Pairs,
+    Accessor,
+    Looks,
+}
+
+fn sum_of_keys<L: Ledger>(
+    alloc: Global,
+    stage: Stage,
+    count: u64,
+    blank: Blank,
+) -> Result<u64, Memory>
+    requires name { blank.name ≡ L.name }
+    requires parts { blank.parts ≡ L.parts }
+    requires some { 0 < L.parts }
+{
+    let mut steps = Steps::<L>::of(blank);
+    let words = written(alloc, count)?;
+    if !is_paired(&words) || !keys_differ(&words, &mut steps) {
+        return Ok(0);
+    }
+    if let Stage::Pairs = stage {
+        return Ok(words.bytes().len() as u64);
+    }
+    let index = HashIndex::build(alloc, &words, TRIES)?;
+    if let Stage::Accessor = stage {
+        return Ok(index.bytes().len() as u64);
+    }
+    Ok(found(&words, &index, TRIES, &mut steps))
+}
+
+/// `hashed_pairs` gives the length of the word file, `hashed` that of its accessor, and every other part the
+/// sum of the offsets found; 0 where the keys don't differ.
+pub fn sum_of_hashed(alloc: Global, part: &str, count: u64) -> Result<u64, Memory> {
+    let stage = match part {
+        "hashed_pairs" => Stage::Pairs,
+        "hashed" => Stage::Accessor,
+        _ => Stage::Looks,
+    };
+    sum_of_keys::<Brand>(alloc, stage, count, Blank::new(1))
+}

@@ -1,0 +1,106 @@
+-- The nodes of all buckets, one bucket after the other.
+use Rattle.std.proofs.Common.{◌≡◌, ℕ, suc, ◌+◌, ◌-◌, ◌<◌, ◌≤◌, Bool, true, false, List, [], ◌∷◌, ◌++◌, length, Option, Some, None, refl, sym, ap, subst, ◌∙◌, append_assoc, arith}
+use Rattle.std.specs.Option.{option_map, option_and_then}
+use Rattle.std.proofs.lemmas.List.{append-nil, length-append, length-map, map-append}
+use Rattle.std.proofs.lemmas.List.Concat.{flat_map-append}
+use Rattle.recsplit_index.specs.declared.keys.HashedKey.{HashedKey}
+use Rattle.recsplit_index.specs.declared.buckets.Built.{Built}
+use Rattle.recsplit_index.specs.Nodes.{Node, offsets_of, PutsNode}
+use Rattle.recsplit_index.specs.Index.{bucket_count, bucket_node, nodes_from, nodes_of, starts_from, slots_of, bits_of_nodes, Holds, HoldsAll}
+
+-- the nodes so far, and what is left of them
+pub record IsBuilding (tries buckets : ℕ) (keys : List HashedKey) (i : ℕ) (starts : List ℕ) (codes : List Bool) (offsets : List ℕ) : Type 0 where
+  pub done : List Node
+  pub left : option_map (λ rest. done ++ rest) (nodes_from tries buckets keys (buckets - i) i) ≡ nodes_from tries buckets keys buckets 0
+  pub starts_are : (rest : List Node) → starts ++ starts_from (length offsets) (length codes) rest ≡ starts_from 0 0 (done ++ rest)
+  pub offsets_are : offsets ≡ offsets_of (slots_of done)
+  pub codes_are : codes ≡ bits_of_nodes done
+
+same_map : (o : Option (List Node)) → option_map (λ rest. [] ++ rest) o ≡ o
+same_map None = refl
+same_map (Some ns) = refl
+
+pub building_none : (tries buckets : ℕ) (keys : List HashedKey) (starts : List ℕ) (codes : List Bool) (offsets : List ℕ) → starts ≡ [] → codes ≡ [] → offsets ≡ [] → IsBuilding tries buckets keys 0 starts codes offsets
+building_none tries buckets keys starts codes offsets s c o = record {
+  done = [];
+  left = let all : buckets - 0 ≡ buckets = omega arith in ap (λ (n : ℕ). option_map (λ rest. [] ++ rest) (nodes_from tries buckets keys n 0)) all ∙ same_map (nodes_from tries buckets keys buckets 0);
+  starts_are = λ rest. rw (s, c, o) refl;
+  offsets_are = o;
+  codes_are = c;
+}
+
+map_twice : (done : List Node) (n : Node) (o : Option (List Node)) → option_map (λ rest. (done ++ n ∷ []) ++ rest) o ≡ option_map (λ rest. done ++ rest) (option_map (λ rest. n ∷ rest) o)
+map_twice done n None = refl
+map_twice done n (Some ns) = ap (λ (l : List Node). Some l) (append_assoc done (n ∷ []) ns)
+
+from_by : (tries buckets : ℕ) (keys : List HashedKey) (more i : ℕ) (o : Option Node) → bucket_node tries buckets keys i ≡ o → nodes_from tries buckets keys (suc more) i ≡ option_and_then (λ here. option_map (λ rest. here ∷ rest) (nodes_from tries buckets keys more (i + 1))) o
+unfolding nodes_from
+from_by tries buckets keys more i o is = ap (option_and_then (λ here. option_map (λ rest. here ∷ rest) (nodes_from tries buckets keys more (i + 1)))) is
+
+placed_some : (o : Option Node) (bits : List Bool) (offsets : List ℕ) (new_bits : List Bool) (new_offsets : List ℕ) → PutsNode true o bits offsets new_bits new_offsets → (n : Node) × (o ≡ Some n) × (new_bits ≡ bits ++ n.bits) × (new_offsets ≡ offsets ++ offsets_of n.slots)
+placed_some None bits offsets new_bits new_offsets p = absurd cc
+placed_some (Some n) bits offsets new_bits new_offsets p = (n, refl, p.1, p.2)
+
+placed_none : (o : Option Node) (bits : List Bool) (offsets : List ℕ) (new_bits : List Bool) (new_offsets : List ℕ) → PutsNode false o bits offsets new_bits new_offsets → o ≡ None
+placed_none None bits offsets new_bits new_offsets p = refl
+placed_none (Some n) bits offsets new_bits new_offsets p = absurd cc
+
+offsets-append : (xs ys : List HashedKey) → offsets_of (xs ++ ys) ≡ offsets_of xs ++ offsets_of ys
+offsets-append xs ys = map-append (λ key. key.offset) xs ys
+
+-- one bucket more
+pub building_more : (tries buckets : ℕ) (keys : List HashedKey) (i : ℕ) (starts starts2 : List ℕ) (codes codes2 : List Bool) (offsets offsets2 : List ℕ) → i < buckets → IsBuilding tries buckets keys i starts codes offsets → starts2 ≡ starts ++ (length offsets ∷ length codes ∷ [])
+    → PutsNode true (bucket_node tries buckets keys i) codes offsets codes2 offsets2 → IsBuilding tries buckets keys (i + 1) starts2 codes2 offsets2
+unfolding starts_from
+building_more tries buckets keys i starts starts2 codes codes2 offsets offsets2 lt b start puts =
+    let found = placed_some (bucket_node tries buckets keys i) codes offsets codes2 offsets2 puts in
+    let n : Node = found.0 in
+    let more : buckets - i ≡ suc (buckets - (i + 1)) = omega arith in
+    let rest = nodes_from tries buckets keys (buckets - (i + 1)) (i + 1) in
+    let next : nodes_from tries buckets keys (buckets - i) i ≡ option_map (λ rest. n ∷ rest) rest = ap (λ (m : ℕ). nodes_from tries buckets keys m i) more ∙ from_by tries buckets keys (buckets - (i + 1)) i (Some n) found.1 in
+    let keys_more : length offsets2 ≡ length offsets + length n.slots = ap length found.3 ∙ length-append offsets (offsets_of n.slots) ∙ ap (λ (m : ℕ). length offsets + m) (length-map n.slots (λ key. key.offset)) in
+    let bits_more : length codes2 ≡ length codes + length n.bits = ap length found.2 ∙ length-append codes n.bits in
+    record {
+      done = b.done ++ n ∷ [];
+      left = map_twice b.done n rest ∙ ap (option_map (λ rest. b.done ++ rest)) (sym next) ∙ b.left;
+      starts_are = λ ns.
+          ap (λ (l : List ℕ). l ++ starts_from (length offsets2) (length codes2) ns) start ∙ append_assoc starts (length offsets ∷ length codes ∷ []) (starts_from (length offsets2) (length codes2) ns)
+          ∙ ap (λ (k : ℕ). starts ++ (length offsets ∷ length codes ∷ starts_from k (length codes2) ns)) keys_more
+          ∙ ap (λ (k : ℕ). starts ++ (length offsets ∷ length codes ∷ starts_from (length offsets + length n.slots) k ns)) bits_more
+          ∙ b.starts_are (n ∷ ns) ∙ ap (starts_from 0 0) (sym (append_assoc b.done (n ∷ []) ns));
+      offsets_are = found.3 ∙ ap (λ (l : List ℕ). l ++ offsets_of n.slots) b.offsets_are ∙ sym (offsets-append (slots_of b.done) n.slots)
+          ∙ ap offsets_of (ap (λ (l : List HashedKey). slots_of b.done ++ l) (sym (append-nil n.slots)) ∙ sym (flat_map-append (λ m. m.slots) b.done (n ∷ [])));
+      codes_are = found.2 ∙ ap (λ (l : List Bool). l ++ n.bits) b.codes_are ∙ ap (λ (l : List Bool). bits_of_nodes b.done ++ l) (sym (append-nil n.bits)) ∙ sym (flat_map-append (λ m. m.bits) b.done (n ∷ []));
+    }
+
+holds_none : (o : Option (List Node)) → None ≡ o → HoldsAll None o
+holds_none None is = tt
+holds_none (Some ns) is = absurd cc
+
+-- a bucket without a node
+pub building_fails : (tries : ℕ) (keys : List HashedKey) (i : ℕ) (starts : List ℕ) (codes codes2 : List Bool) (offsets offsets2 : List ℕ) → i < bucket_count (length keys) → IsBuilding tries (bucket_count (length keys)) keys i starts codes offsets
+    → PutsNode false (bucket_node tries (bucket_count (length keys)) keys i) codes offsets codes2 offsets2 → HoldsAll None (nodes_of tries keys)
+unfolding nodes_of
+building_fails tries keys i starts codes codes2 offsets offsets2 lt b puts =
+    let buckets = bucket_count (length keys) in
+    let none = placed_none (bucket_node tries buckets keys i) codes offsets codes2 offsets2 puts in
+    let more : buckets - i ≡ suc (buckets - (i + 1)) = omega arith in
+    let next : nodes_from tries buckets keys (buckets - i) i ≡ None = ap (λ (m : ℕ). nodes_from tries buckets keys m i) more ∙ from_by tries buckets keys (buckets - (i + 1)) i None none in
+    holds_none (nodes_from tries buckets keys buckets 0) (sym (ap (option_map (λ rest. b.done ++ rest)) next) ∙ b.left)
+
+holds_some : (built : Built) (nodes : List Node) (o : Option (List Node)) → Some nodes ≡ o → Holds built nodes → HoldsAll (Some built) o
+holds_some built nodes o is h = subst (λ (x : Option (List Node)). HoldsAll (Some built) x) is h
+
+pub building_all : (tries : ℕ) (keys : List HashedKey) (i : ℕ) (starts : List ℕ) (built : Built) → bucket_count (length keys) ≤ i → IsBuilding tries (bucket_count (length keys)) keys i starts built.parts.codes built.parts.offsets.items
+    → built.starts.items ≡ starts ++ (length built.parts.offsets.items ∷ length built.parts.codes ∷ []) → HoldsAll (Some built) (nodes_of tries keys)
+unfolding nodes_of nodes_from starts_from
+building_all tries keys i starts built ge b start =
+    let buckets = bucket_count (length keys) in
+    let none : buckets - i ≡ 0 = omega arith in
+    let all : Some (b.done ++ []) ≡ nodes_from tries buckets keys buckets 0 = sym (ap (λ (m : ℕ). option_map (λ rest. b.done ++ rest) (nodes_from tries buckets keys m i)) none) ∙ b.left in
+    holds_some built (b.done ++ []) (nodes_from tries buckets keys buckets 0) all
+    (record {
+      starts_are = start ∙ b.starts_are [];
+      offsets_are = b.offsets_are ∙ ap (λ (l : List Node). offsets_of (slots_of l)) (sym (append-nil b.done));
+      codes_are = b.codes_are ∙ ap (λ (l : List Node). bits_of_nodes l) (sym (append-nil b.done));
+    })

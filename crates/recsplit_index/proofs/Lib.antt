@@ -1,0 +1,17 @@
+pub mod Hashes
+pub mod FirstSeeds
+pub mod Leaves
+pub mod Placements
+pub mod Gathers
+pub mod KeyLists
+pub mod Buildings
+pub mod Layouts
+pub mod Salts
+pub mod Every
+pub mod Positions
+pub mod Shapes
+pub mod Walkings
+pub mod Sortings
+pub mod Finds
+pub mod Plains
+pub mod Ascents

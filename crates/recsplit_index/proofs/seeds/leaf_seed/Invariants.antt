@@ -1,0 +1,6 @@
+use Rattle.std.proofs.Common.{◌≡◌, ◌-◌}
+use Rattle.recsplit_index.specs.Nodes.{first_from, is_leaf_seed}
+use Rattle.recsplit_index.proofs.seeds.leaf_seed.Given as goal
+
+abbrev pub invariant-loop-seed : goal.invariant-loop-seed
+invariant-loop-seed l = first_from (is_leaf_seed l.depth l.keys) (l.tries - l.seed) l.seed ≡ first_from (is_leaf_seed l.depth l.keys) l.tries 0

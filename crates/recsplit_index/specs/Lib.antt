@@ -1,0 +1,6 @@
+pub mod Hash
+pub mod Keys
+pub mod Nodes
+pub mod Spelling
+pub mod Index
+pub mod Walks

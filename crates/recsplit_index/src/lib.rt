@@ -1,0 +1,18 @@
+//! Hash accessors of word files: the offset of a key's word by one look, after RecSplit.
+#![tactic(auto)]
+
+mod buckets;
+mod file;
+mod find;
+mod hash;
+mod keys;
+mod nodes;
+mod seeds;
+mod spell;
+mod walk;
+
+pub use file::HashIndex;
+pub use hash::key_hash;
+
+#[cfg(test)]
+mod tests;

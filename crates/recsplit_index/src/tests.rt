@@ -1,0 +1,228 @@
+ghost use Rattle.std.specs.Prelude.{◌≡◌, ℕ, ◌*◌, ◌<◌, ◌≤◌, ◌^◌, [], slice_index_or, IsTrue, IfSome};
+ghost use Rattle.std.specs.Option.{ForSome};
+ghost use Rattle.word_file.specs.Spelling.{StartsAt, IsPlace};
+ghost use Rattle.recsplit_index.specs.Keys.{IsPaired, IsBelow, KeysAscend, KeysDiffer};
+ghost use Rattle.recsplit_index.specs.Index.{index_of};
+
+use super::*;
+use crate::keys::key_after;
+use agg_outside::{Bytes, Steps};
+use std::alloc::Global;
+use std::marker::Brand;
+use std::process::Abort;
+use std::sync::ledger::{Blank, Ledger};
+use std::test::Fail;
+use word_file::{AccessError, Tag, WordFile, WordWriter};
+
+fn writer(alloc: Global) -> Result<WordWriter, Fail> {
+    let tag = Tag {
+        entity: 0,
+        kind: 0,
+        version: 1,
+        step: 1,
+        from: 0,
+        to: 1,
+    };
+    Ok(WordWriter::new(alloc, tag)?)
+}
+
+/// So many keys of two bytes, 00 01, 00 03 and so on, with empty values.
+fn odd_keys(alloc: Global, count: u16) -> Result<WordFile, Fail> {
+    let mut writer = writer(alloc)?;
+    for i in 0..count {
+        let key = i % 0x8000 * 2 + 1;
+        writer.push(&key.to_be_bytes())?;
+        writer.push(&[])?;
+    }
+    Ok(writer.finish())
+}
+
+fn is_less<L: Ledger>(words: &WordFile, key: u64, next: u64, steps: &mut Steps<L>) -> bool
+    requires key { StartsAt words.now.words key }
+    requires next { StartsAt words.now.words next }
+    ensures { IsTrue result → (i j : ℕ) → IsPlace words.now.words key i → IsPlace words.now.words next j → IsBelow (slice_index_or words.now.words i []) (slice_index_or words.now.words j []) }
+{
+    let one = words.word_at(key, steps);
+    let other = words.word_at(next, steps);
+    one.cmp(&other).is_lt()
+}
+
+fn goes_up<L: Ledger>(words: &WordFile, key: u64, next: Option<u64>, steps: &mut Steps<L>) -> bool
+    requires key { StartsAt words.now.words key }
+    requires next { ForSome next (λ after. StartsAt words.now.words after) }
+    ensures { IsTrue result → IfSome next (λ after. (i j : ℕ) → IsPlace words.now.words key i → IsPlace words.now.words after j → IsBelow (slice_index_or words.now.words i []) (slice_index_or words.now.words j [])) }
+{
+    match next {
+        None => true,
+        Some(after) => is_less(words, key, after, steps),
+    }
+}
+
+fn keys_ascend<L: Ledger>(words: &WordFile, steps: &mut Steps<L>) -> bool
+    requires { IsPaired words.now.words }
+    ensures { IsTrue result → KeysAscend words.now.words }
+{
+    // That there are fewer than 2^64 words comes with their number.
+    let _count = words.count();
+    let mut last = words.first();
+    let mut place = 0u64;
+    while let Some(key) = last {
+        let next = key_after(words, key);
+        if !goes_up(words, key, next, steps) {
+            return false;
+        }
+        last = next;
+        place += 1;
+    }
+    true
+}
+
+fn keys_differ<L: Ledger>(words: &WordFile, blank: Blank) -> bool
+    requires name { blank.name ≡ L.name }
+    requires parts { blank.parts ≡ L.parts }
+    requires some { 0 < L.parts }
+    requires paired { IsPaired words.now.words }
+    ensures { IsTrue result → KeysDiffer words.now.words }
+{
+    let mut steps = Steps::<L>::of(blank);
+    keys_ascend(words, &mut steps)
+}
+
+fn is_paired(words: &WordFile) -> bool
+    ensures { IsTrue result → IsPaired words.now.words }
+{
+    words.count() / 2 * 2 == words.count()
+}
+
+fn find<L: Ledger>(
+    index: &HashIndex,
+    words: &WordFile,
+    tries: u32,
+    key: &[u8],
+    steps: &mut Steps<L>,
+) -> Option<u64>
+    requires tries { tries ≤ 2 ^ 16 }
+    requires of_words { index.now ≡ index_of tries words.now.words }
+{
+    index.find(words, key, steps)
+}
+
+fn finds_each<L: Ledger>(
+    rt: &impl Abort,
+    words: &WordFile,
+    index: &HashIndex,
+    count: u16,
+    tries: u32,
+    blank: Blank,
+)
+    requires name { blank.name ≡ L.name }
+    requires parts { blank.parts ≡ L.parts }
+    requires some { 0 < L.parts }
+    requires tries { tries ≤ 2 ^ 16 }
+    requires of_words { index.now ≡ index_of tries words.now.words }
+{
+    let mut steps = Steps::<L>::of(blank);
+    for place in 0..count {
+        let key = place % 0x8000 * 2 + 1;
+        let found = find(index, words, tries, &key.to_be_bytes(), &mut steps);
+        assert_eq!(rt; found, Some(40 + 10 * u64::from(place)));
+        let absent = find(index, words, tries, &(key - 1).to_be_bytes(), &mut steps);
+        assert_eq!(rt; absent, None);
+    }
+    assert_eq!(rt; find(index, words, tries, &[], &mut steps), None);
+    assert_eq!(rt; find(index, words, tries, &[0, 1, 0], &mut steps), None);
+}
+
+#[test]
+fn each_key_is_found(rt: HostRuntime) -> Result<(), Fail> {
+    for (count, tries, form) in [
+        (0, 65_536, 1),
+        (1, 65_536, 1),
+        (8, 65_536, 1),
+        (9, 65_536, 1),
+        (101, 65_536, 1),
+        (1, 0, 1),
+        (8, 0, 0),
+        (9, 0, 0),
+        (101, 0, 0),
+    ] {
+        let words = odd_keys(rt.alloc(), count)?;
+        assert!(rt; tries <= 65_536 && is_paired(&words));
+        assert!(rt; keys_differ::<Brand>(&words, Blank::new(1)));
+        let index = HashIndex::build(rt.alloc(), &words, tries)?;
+        assert_eq!(rt; index.form(), form, "over {count} keys with {tries} tries");
+        finds_each::<Brand>(&rt, &words, &index, count, tries, Blank::new(1));
+        let bytes = Bytes::of(rt.alloc(), index.bytes())?;
+        let checked = HashIndex::check(rt.alloc(), bytes, &words, tries);
+        assert!(rt; checked.is_ok());
+    }
+    Ok(())
+}
+
+#[test]
+fn a_hash_is_that_of_split_mix(rt: HostRuntime) {
+    assert_eq!(rt; key_hash(0, b""), 0);
+    assert_eq!(rt; key_hash(1, b""), 0xe220_a839_7b1d_cdaf);
+}
+
+/// The accessor of the key `aa` and, where there are two, of `bb` behind it.
+fn of_few(alloc: Global, count: u16, tries: u32) -> Result<Bytes, Fail>
+    requires { tries ≤ 2 ^ 16 }
+{
+    let mut writer = writer(alloc)?;
+    if count > 0 {
+        writer.push(&[0xaa])?;
+        writer.push(&[1])?;
+    }
+    if count > 1 {
+        writer.push(&[0xbb])?;
+        writer.push(&[2])?;
+    }
+    let words = writer.finish();
+    if !is_paired(&words) || !keys_differ::<Brand>(&words, Blank::new(1)) {
+        return Err(Fail::from("the keys differ"));
+    }
+    let index = HashIndex::build(alloc, &words, tries)?;
+    Ok(Bytes::of(alloc, index.bytes())?)
+}
+
+#[test]
+fn few_keys_are_spelled_plainly(rt: HostRuntime) -> Result<(), Fail> {
+    let none = of_few(rt.alloc(), 0, 65_536)?;
+    let text = b"AGH1\x01\0\0\0\0\0\0\0\0\0\0\0\0\0\0\0\0\0\0\0\0\0\0\0\0\0\0\0";
+    assert!(rt; none.as_slice() == text.as_slice());
+    let one = of_few(rt.alloc(), 1, 65_536)?;
+    let text =
+        b"AGH1\x01\0\0\0\0\0\0\0\0\0\0\x01\0\0\0\0\0\0\0\0\0\0\0\0\0\0\0\0\0\0\0\0\0\0\0\x01\0\0\0\0\0\0\0\0\0\0\0\0\0\0\0\x28";
+    assert!(rt; one.as_slice() == text.as_slice());
+    let two = of_few(rt.alloc(), 2, 0)?;
+    let text = b"AGH1\0\0\0\0\0\0\0\0\0\0\0\x02\0\0\0\0\0\0\0\x28\0\0\0\0\0\0\0\x32";
+    assert!(rt; two.as_slice() == text.as_slice());
+    Ok(())
+}
+
+fn refusal(alloc: Global, bytes: &[u8], words: &WordFile) -> Result<Option<AccessError>, Fail>
+    requires paired { IsPaired words.now.words }
+    requires differ { KeysDiffer words.now.words }
+{
+    Ok(HashIndex::check(alloc, Bytes::of(alloc, bytes)?, words, 65_536).err())
+}
+
+#[test]
+fn only_the_accessor_is_accepted(rt: HostRuntime) -> Result<(), Fail> {
+    let words = odd_keys(rt.alloc(), 9)?;
+    assert!(rt; is_paired(&words));
+    assert!(rt; keys_differ::<Brand>(&words, Blank::new(1)));
+    let index = HashIndex::build(rt.alloc(), &words, 65_536)?;
+    let mut bytes = Bytes::of(rt.alloc(), index.bytes())?.into_vec();
+    assert!(rt; bytes.len() > 50);
+    assert_eq!(rt; refusal(rt.alloc(), bytes.as_slice(), &words)?, None);
+    bytes[15] = 10;
+    let wrong = refusal(rt.alloc(), bytes.as_slice(), &words)?;
+    assert_eq!(rt; wrong, Some(AccessError::Differs { at: 15 }));
+    bytes[15] = 9;
+    bytes.truncate(50);
+    let cut = refusal(rt.alloc(), bytes.as_slice(), &words)?;
+    assert_eq!(rt; cut, Some(AccessError::Differs { at: 50 }));
+    Ok(())
+}
