@@ -3,6 +3,7 @@
 #![tactic(auto)]
 
 mod hashed;
+mod keys;
 mod lists;
 mod ordered;
 mod words;

@@ -1,24 +1,14 @@
 //! Ordered accessors: so many keys of 20 bytes, and so many look-ups at random, half of them at keys
 //! that are there and half between two.
-ghost use Rattle.std.specs.Prelude.{◌≡◌, ℕ, ◌+◌, ◌<◌, [], slice_index_or, IsTrue, IfSome};
-ghost use Rattle.std.specs.Option.{ForSome};
-ghost use Rattle.word_file.specs.Spelling.{StartsAt, IsPlace, offset_of};
-ghost use Rattle.btree_index.specs.Keys.{IsPaired, IsBelow, KeysAscend, key_offsets};
+ghost use Rattle.std.specs.Prelude.{◌≡◌, ◌<◌};
+ghost use Rattle.btree_index.specs.Keys.{IsPaired, key_offsets};
 
+use crate::keys::{TAG, is_paired, keys_ascend};
 use agg_outside::{Memory, Steps};
 use btree_index::BTreeFile;
 use std::alloc::Global;
 use std::sync::ledger::{Blank, Ledger};
-use word_file::{Tag, WordFile, WordWriter};
-
-const TAG: Tag = Tag {
-    entity: 0,
-    kind: 0,
-    version: 1,
-    step: 1,
-    from: 0,
-    to: 1,
-};
+use word_file::{WordFile, WordWriter};
 
 /// Keys for so many places, spread over all that 20 bytes can be: those with odd numbers are in the
 /// file, and those with even numbers lie below, between and above them.
@@ -55,62 +45,6 @@ fn written(alloc: Global, keys: &Keys) -> Result<WordFile, Memory> {
         writer.push(&place.to_be_bytes())?;
     }
     Ok(writer.finish())
-}
-
-fn is_paired(words: &WordFile) -> bool
-    ensures { IsTrue result → IsPaired words.now.words }
-{
-    words.count() / 2 * 2 == words.count()
-}
-
-fn next_key(words: &WordFile, at: u64) -> Option<u64>
-    requires { StartsAt words.now.words at }
-    ensures { (i : ℕ) → IsPlace words.now.words at i → result ≡ offset_of words.now.words (i + 2) }
-{
-    match words.next(at) {
-        Some(value) => words.next(value),
-        None => None,
-    }
-}
-
-fn is_less<L: Ledger>(words: &WordFile, key: u64, next: u64, steps: &mut Steps<L>) -> bool
-    requires key { StartsAt words.now.words key }
-    requires next { StartsAt words.now.words next }
-    ensures { IsTrue result → (i j : ℕ) → IsPlace words.now.words key i → IsPlace words.now.words next j → IsBelow (slice_index_or words.now.words i []) (slice_index_or words.now.words j []) }
-{
-    let one = words.word_at(key, steps);
-    let other = words.word_at(next, steps);
-    one.cmp(&other).is_lt()
-}
-
-fn goes_up<L: Ledger>(words: &WordFile, key: u64, next: Option<u64>, steps: &mut Steps<L>) -> bool
-    requires key { StartsAt words.now.words key }
-    requires next { ForSome next (λ after. StartsAt words.now.words after) }
-    ensures { IsTrue result → IfSome next (λ after. (i j : ℕ) → IsPlace words.now.words key i → IsPlace words.now.words after j → IsBelow (slice_index_or words.now.words i []) (slice_index_or words.now.words j [])) }
-{
-    match next {
-        None => true,
-        Some(after) => is_less(words, key, after, steps),
-    }
-}
-
-fn keys_ascend<L: Ledger>(words: &WordFile, steps: &mut Steps<L>) -> bool
-    requires { IsPaired words.now.words }
-    ensures { IsTrue result → KeysAscend words.now.words }
-{
-    // That there are fewer than 2^64 words comes with their number.
-    let _count = words.count();
-    let mut last = words.first();
-    let mut place = 0u64;
-    while let Some(key) = last {
-        let next = next_key(words, key);
-        if !goes_up(words, key, next, steps) {
-            return false;
-        }
-        last = next;
-        place += 1;
-    }
-    true
 }
 
 // The sum of the places that so many look-ups answer.

@@ -1,19 +1,11 @@
 //! Word files: so many words of 20 bytes written, checked and walked.
 ghost use Rattle.std.specs.Prelude.{◌≡◌, ◌<◌};
 
+use crate::keys::TAG;
 use agg_outside::{Bytes, Memory, Steps};
 use std::alloc::Global;
 use std::sync::ledger::{Blank, Ledger};
-use word_file::{Tag, WordFile, WordWriter};
-
-const TAG: Tag = Tag {
-    entity: 0,
-    kind: 0,
-    version: 1,
-    step: 1,
-    from: 0,
-    to: 1,
-};
+use word_file::{WordFile, WordWriter};
 
 fn written(alloc: Global, count: u64) -> Result<WordFile, Memory> {
     let mut writer = WordWriter::new(alloc, TAG)?;

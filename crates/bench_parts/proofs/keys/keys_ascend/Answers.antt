@@ -1,6 +1,6 @@
 use Rattle.std.proofs.Common.{arith}
-use Rattle.recsplit_index.proofs.Ascents.{here, goes_on, all_ascend}
-use Rattle.bench_parts.proofs.hashed.keys_ascend.Goals as goal
+use Rattle.btree_index.proofs.Ascents.{here, goes_on, all_ascend}
+use Rattle.bench_parts.proofs.keys.keys_ascend.Goals as goal
 
 pub overflow_add-place : goal.overflow_add-place
 overflow_add-place g c =

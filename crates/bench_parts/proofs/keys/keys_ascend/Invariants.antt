@@ -1,7 +1,7 @@
 use Rattle.std.proofs.Common.{◌-◌}
-use Rattle.recsplit_index.specs.Keys.{key_count}
-use Rattle.recsplit_index.proofs.Ascents.{IsAscending}
-use Rattle.bench_parts.proofs.hashed.keys_ascend.Given as goal
+use Rattle.btree_index.specs.Keys.{key_count}
+use Rattle.btree_index.proofs.Ascents.{IsAscending}
+use Rattle.bench_parts.proofs.keys.keys_ascend.Given as goal
 
 abbrev pub invariant-loop-last : goal.invariant-loop-last
 invariant-loop-last g l = IsAscending l.words.words l.last l.place
