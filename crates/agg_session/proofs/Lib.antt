@@ -8,3 +8,4 @@ pub mod StoppingLaws
 pub mod TakingLaws
 pub mod CommandLaws
 pub mod TopLaws
+pub mod CollatingLaws

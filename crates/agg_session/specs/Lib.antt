@@ -10,3 +10,4 @@ pub mod CommandWords
 pub mod Top
 pub mod Served
 pub mod Written
+pub mod Collating

@@ -2,10 +2,13 @@
 //! standard input and output.
 #![tactic(auto)]
 
+mod collating;
 mod command_words;
 #[cfg(test)]
 mod ending_tests;
 mod ends;
+#[cfg(test)]
+mod file_tests;
 mod limits;
 mod line;
 mod link;
@@ -23,6 +26,7 @@ mod tests;
 mod word_tests;
 
 use agg_outside::{FileMap, KeeperStart, Keys, Memory, NoGate, Rowlist};
+pub use collating::step_changes;
 pub use command_words::step_size_of;
 pub use ends::LinkEnd;
 pub use limits::Limits;

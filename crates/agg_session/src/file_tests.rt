@@ -1,0 +1,69 @@
+ghost use Rattle.std.specs.Prelude.{◌≡◌, IfOk};
+ghost use Rattle.agg_session.specs.Top.{empty_held};
+ghost use Rattle.memory_side.specs.MemoryKeepers.{mem_held};
+
+use crate::*;
+use agg_model::*;
+use agg_outside::*;
+use memory_side::*;
+use std::alloc::Global;
+use std::test::Fail;
+
+fn empty_keeper(alloc: Global) -> Result<MemKeeper, Memory>
+    ensures { IfOk result (λ k. mem_held k ≡ empty_held) }
+{
+    let rows = KeeperStart {
+        rows: Rowlist::new(alloc),
+        floor: 0,
+    };
+    MemKeeper::new(alloc, &rows, &[])
+}
+
+// The rows that a session over these lines leaves; a step has four numbers.
+fn rows_after(alloc: Global, text: &[u8]) -> Result<MemKeeper, Memory> {
+    let keeper = empty_keeper(alloc)?;
+    let disk = SureDisk::new(alloc, &FileMap::new(alloc))?;
+    let mut source = SureSource::new(alloc, text)?;
+    let mut sink = SureSink::new(alloc, &[])?;
+    let ended = run_plain(
+        alloc,
+        disk,
+        keeper,
+        4,
+        &Limits::usual(),
+        &mut source,
+        &mut sink,
+    );
+    Ok(ended.keeper)
+}
+
+// The first bytes of the key and of the value, and the number between them.
+fn brief(change: &Change) -> (Option<u8>, u64, Option<u8>) {
+    let value = match &change.act {
+        Act::Put(value) => value.as_slice().first().copied(),
+        Act::Del | Act::Mark => None,
+    };
+    (change.key.as_slice().first().copied(), change.tx, value)
+}
+
+#[test]
+fn a_step_has_the_changes_of_its_numbers(rt: HostRuntime) -> Result<(), Fail> {
+    let alloc = rt.alloc();
+    let text =
+        b"tx 1\nput accounts aa 01\nput accounts bb 02\ntx 4\nput accounts aa 03\ntx 5\nput accounts cc 04\ntx 7\nput storage aa 05\nput accounts aa 06\ntx 8\nput accounts bb 07\ncommit\n";
+    let mut keeper = rows_after(alloc, text)?;
+    let Ok(changes) = step_changes(&mut keeper, alloc, Entity::Accounts, 4, 1) else {
+        return Err(Fail::new("no changes"));
+    };
+    let mut seen = Vec::new(alloc);
+    for change in changes.as_slice() {
+        seen.push(brief(change))?;
+    }
+    let wanted = [
+        (Some(0xaa), 4, Some(3)),
+        (Some(0xaa), 7, Some(6)),
+        (Some(0xcc), 5, Some(4)),
+    ];
+    assert_eq!(rt; seen.as_slice(), wanted.as_slice());
+    Ok(())
+}
