@@ -9,3 +9,4 @@ pub mod TakingLaws
 pub mod CommandLaws
 pub mod TopLaws
 pub mod CollatingLaws
+pub mod PublishingLaws

@@ -11,3 +11,4 @@ pub mod Top
 pub mod Served
 pub mod Written
 pub mod Collating
+pub mod Publishing

@@ -6,6 +6,7 @@ use crate::*;
 use agg_model::*;
 use agg_outside::*;
 use memory_side::*;
+use merge_ranges::FileName;
 use std::alloc::Global;
 use std::test::Fail;
 
@@ -65,5 +66,47 @@ fn a_step_has_the_changes_of_its_numbers(rt: HostRuntime) -> Result<(), Fail> {
         (Some(0xcc), 5, Some(4)),
     ];
     assert_eq!(rt; seen.as_slice(), wanted.as_slice());
+    Ok(())
+}
+
+const NAME: &[u8] = b"v1-accounts.0-1.kv";
+
+// How a publish over an older file ends where these calls fail, and what it leaves.
+fn publish_over_old(
+    alloc: Global,
+    fails: &[u64],
+) -> Result<(Result<(), DiskError>, MemDisk), Memory> {
+    let mut start = FileMap::new(alloc);
+    start.put(alloc, NAME, b"old")?;
+    let mut disk = MemDisk::new(alloc, &start, fails)?;
+    let name = FileName {
+        entity: Entity::Accounts,
+        range: Range { from: 0, to: 1 },
+        kind: FileKind::Kv,
+    };
+    let done = publish(&mut disk, alloc, &name, b"new");
+    Ok((done, disk))
+}
+
+#[test]
+fn a_published_file_has_its_bytes_and_leaves_no_other_name(rt: HostRuntime) -> Result<(), Fail> {
+    let (done, disk) = publish_over_old(rt.alloc(), &[])?;
+    assert_eq!(rt; done, Ok(()));
+    assert_eq!(rt; disk.files().len(), 1);
+    let found = disk.files().find(NAME);
+    assert!(rt; found.is_some_and(|bytes| bytes.as_slice() == b"new".as_slice()));
+    Ok(())
+}
+
+#[test]
+fn a_publish_that_fails_leaves_the_older_file(rt: HostRuntime) -> Result<(), Fail> {
+    // The write fails, and then the rename, which leaves the temporary name too.
+    for (call, files) in [(1, 1), (2, 2)] {
+        let (done, disk) = publish_over_old(rt.alloc(), &[call])?;
+        assert_eq!(rt; done, Err(DiskError::Failed));
+        assert_eq!(rt; disk.files().len(), files);
+        let found = disk.files().find(NAME);
+        assert!(rt; found.is_some_and(|bytes| bytes.as_slice() == b"old".as_slice()));
+    }
     Ok(())
 }

@@ -1,0 +1,20 @@
+use Rattle.agg_session.proofs.PublishingLaws.{there, moved_ok, moved_left, others, whole}
+use Rattle.agg_session.proofs.publishing.write_and_rename.Goals as goal
+
+pub rename-requires : goal.rename-requires
+rename-requires g c =
+    there c.args.temporary.now c.args.bytes.now (g.D.Disk.files c.args.disk.now) (g.D.Disk.files c.write_new.new.self) c.in_ok-write_new.ensures.ok c.in_ok-write_new.ensures.silent
+
+pub returns-clause-ok : goal.returns-clause-ok
+returns-clause-ok g c =
+    moved_ok c.args.temporary.now c.args.name.now c.args.bytes.now (g.D.Disk.files c.args.disk.now) (g.D.Disk.files c.write_new.new.self) (g.D.Disk.files c.rename.new.self) c.rename.result c.in_ok-write_new.ensures.ok c.rename.ensures.ok
+
+pub returns-clause-others : goal.returns-clause-others
+returns-clause-others g c =
+    others c.args.temporary.now c.args.name.now c.args.bytes.now (g.D.Disk.files c.args.disk.now) (g.D.Disk.files c.rename.new.self)
+    (moved_left c.args.temporary.now c.args.name.now c.args.bytes.now (g.D.Disk.files c.args.disk.now) (g.D.Disk.files c.write_new.new.self) (g.D.Disk.files c.rename.new.self) c.rename.result c.in_ok-write_new.ensures.ok c.rename.ensures.ok c.rename.ensures.err)
+
+pub returns-clause-whole : goal.returns-clause-whole
+returns-clause-whole g c =
+    whole c.args.temporary.now c.args.name.now c.args.bytes.now (g.D.Disk.files c.args.disk.now) (g.D.Disk.files c.rename.new.self) c.requires
+    (moved_left c.args.temporary.now c.args.name.now c.args.bytes.now (g.D.Disk.files c.args.disk.now) (g.D.Disk.files c.write_new.new.self) (g.D.Disk.files c.rename.new.self) c.rename.result c.in_ok-write_new.ensures.ok c.rename.ensures.ok c.rename.ensures.err)
