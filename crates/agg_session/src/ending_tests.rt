@@ -1,25 +1,12 @@
-ghost use Rattle.std.specs.Prelude.{◌≡◌, ◌≤◌, ◌^◌, Some, IfOk};
-ghost use Rattle.agg_session.specs.Top.{empty_held};
-ghost use Rattle.memory_side.specs.MemoryKeepers.{mem_held};
+ghost use Rattle.std.specs.Prelude.{◌≤◌, ◌^◌, Some};
 
-use crate::tests::{FIRST_PATH, FIRST_REPLIES};
+use crate::tests::{FIRST_PATH, FIRST_REPLIES, empty_keeper};
 use crate::*;
 use agg_outside::*;
 use memory_side::*;
 use std::alloc::Global;
 use std::process::Abort;
 use std::test::Fail;
-
-// A keeper without a row, of which these calls fail.
-fn empty_keeper(alloc: Global, fails: &[u64]) -> Result<MemKeeper, Memory>
-    ensures { IfOk result (λ k. mem_held k ≡ empty_held) }
-{
-    let rows = KeeperStart {
-        rows: Rowlist::new(alloc),
-        floor: 0,
-    };
-    MemKeeper::new(alloc, &rows, fails)
-}
 
 // How a run at the usual step size ends, and how many rows it leaves.
 fn ends<I: Source, O: Sink>(

@@ -1,7 +1,4 @@
-ghost use Rattle.std.specs.Prelude.{◌≡◌, IfOk};
-ghost use Rattle.agg_session.specs.Top.{empty_held};
-ghost use Rattle.memory_side.specs.MemoryKeepers.{mem_held};
-
+use crate::tests::empty_keeper;
 use crate::*;
 use agg_model::*;
 use agg_outside::*;
@@ -10,19 +7,9 @@ use merge_ranges::FileName;
 use std::alloc::Global;
 use std::test::Fail;
 
-fn empty_keeper(alloc: Global) -> Result<MemKeeper, Memory>
-    ensures { IfOk result (λ k. mem_held k ≡ empty_held) }
-{
-    let rows = KeeperStart {
-        rows: Rowlist::new(alloc),
-        floor: 0,
-    };
-    MemKeeper::new(alloc, &rows, &[])
-}
-
 // The rows that a session over these lines leaves; a step has four numbers.
 fn rows_after(alloc: Global, text: &[u8]) -> Result<MemKeeper, Memory> {
-    let keeper = empty_keeper(alloc)?;
+    let keeper = empty_keeper(alloc, &[])?;
     let disk = SureDisk::new(alloc, &FileMap::new(alloc))?;
     let mut source = SureSource::new(alloc, text)?;
     let mut sink = SureSink::new(alloc, &[])?;

@@ -1,4 +1,6 @@
-ghost use Rattle.std.specs.Prelude.{◌≤◌};
+ghost use Rattle.std.specs.Prelude.{◌≡◌, ◌≤◌, IfOk};
+ghost use Rattle.agg_session.specs.Top.{empty_held};
+ghost use Rattle.memory_side.specs.MemoryKeepers.{mem_held};
 
 use crate::*;
 use agg_outside::*;
@@ -29,6 +31,17 @@ fn status_of_run<I: Source, O: Sink>(
     let keeper = SureKeeper::new(alloc, &rows)?;
     let limits = Limits::usual();
     Ok(run_plain(alloc, disk, keeper, 1_562_500, &limits, source, sink).status)
+}
+
+// A keeper without a row, of which these calls fail.
+pub(crate) fn empty_keeper(alloc: Global, fails: &[u64]) -> Result<MemKeeper, Memory>
+    ensures { IfOk result (λ k. mem_held k ≡ empty_held) }
+{
+    let rows = KeeperStart {
+        rows: Rowlist::new(alloc),
+        floor: 0,
+    };
+    MemKeeper::new(alloc, &rows, fails)
 }
 
 pub(crate) fn words_of(alloc: Global, texts: &[&str]) -> Result<Vec<String>, Memory> {
