@@ -6,7 +6,6 @@ pub mod LineLaws
 pub mod ServingLaws
 pub mod StoppingLaws
 pub mod TakingLaws
-pub mod CommandLaws
 pub mod TopLaws
 pub mod CollatingLaws
 pub mod PublishingLaws

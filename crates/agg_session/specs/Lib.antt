@@ -6,7 +6,6 @@ pub mod Store
 pub mod Stop
 pub mod Running
 pub mod Ends
-pub mod CommandWords
 pub mod Top
 pub mod Served
 pub mod Written

@@ -3,7 +3,6 @@
 #![tactic(auto)]
 
 mod collating;
-mod command_words;
 #[cfg(test)]
 mod ending_tests;
 mod ends;
@@ -28,7 +27,6 @@ mod word_tests;
 
 use agg_outside::{FileMap, KeeperStart, Keys, Memory, NoGate, Rowlist};
 pub use collating::step_changes;
-pub use command_words::step_size_of;
 pub use ends::LinkEnd;
 pub use limits::Limits;
 pub use link::{Link, Transaction};

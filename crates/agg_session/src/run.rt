@@ -6,9 +6,8 @@ ghost use Rattle.std.specs.FinMap as files;
 ghost use Rattle.agg_outside.specs.Counts.{Rose};
 ghost use Rattle.agg_session.specs.Served.{EndsLong};
 ghost use Rattle.agg_session.specs.Top.{usual, empty_list, empty_held, status_of, IsShort, EndsWhole, EndsBetween, EndsWithin, IsBetween, IsCutShort};
-ghost use Rattle.agg_session.specs.CommandWords.{step_size_of};
+ghost use Rattle.command_words.specs.CommandWords.{step_size_of};
 
-use crate::command_words::step_size_of;
 use crate::ends::LinkEnd;
 use crate::limits::Limits;
 use crate::link::Link;
@@ -18,6 +17,7 @@ use crate::status::Status;
 use crate::store::Store;
 use crate::taking::serve;
 use agg_outside::{Disk, Doors, Gate, Keeper, Sink, Source};
+use command_words::step_size_of;
 use line_words::LineCut;
 use std::alloc::Global;
 use std::rt::Clock;

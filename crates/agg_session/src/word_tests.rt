@@ -1,6 +1,7 @@
 use crate::tests::{status_of_words, words_of};
 use crate::*;
 use agg_outside::Memory;
+use command_words::step_size_of;
 use memory_side::{SureSink, SureSource};
 use std::alloc::Global;
 use std::process::Abort;

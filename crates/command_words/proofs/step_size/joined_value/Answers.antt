@@ -1,6 +1,6 @@
 use Rattle.std.proofs.Common.{sym, ◌∙◌}
-use Rattle.agg_session.proofs.CommandLaws.{joined_none, joined_some}
-use Rattle.agg_session.proofs.command_words.joined_value.Goals as goal
+use Rattle.command_words.proofs.CommandLaws.{joined_none, joined_some}
+use Rattle.command_words.proofs.step_size.joined_value.Goals as goal
 
 pub returns-in_err-value-clause-exact : goal.returns-in_err-value-clause-exact
 returns-in_err-value-clause-exact c =

@@ -1,7 +1,6 @@
-//! The words after the program's name.
 ghost use Rattle.std.specs.Prelude.{◌≡◌, ◌&&◌, ◌≤◌, ◌^◌, nat_le, map, IfSome};
 ghost use Rattle.std.specs.String.{string_bytes};
-ghost use Rattle.agg_session.specs.CommandWords as given;
+ghost use Rattle.command_words.specs.CommandWords as given;
 
 use line_words::number;
 

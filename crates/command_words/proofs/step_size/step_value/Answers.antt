@@ -1,6 +1,6 @@
 use Rattle.std.proofs.Common.{cond, Some, None, ap, sym, ◌∙◌}
-use Rattle.agg_session.proofs.CommandLaws.{value_long, value_none, value_number}
-use Rattle.agg_session.proofs.command_words.step_value.Goals as goal
+use Rattle.command_words.proofs.CommandLaws.{value_long, value_none, value_number}
+use Rattle.command_words.proofs.step_size.step_value.Goals as goal
 
 pub returns-then-value-gt10-clause-exact : goal.returns-then-value-gt10-clause-exact
 returns-then-value-gt10-clause-exact c = sym (value_long c.args.value.now c.if-value-gt10.true)

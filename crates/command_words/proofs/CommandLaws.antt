@@ -7,7 +7,7 @@ use Rattle.std.proofs.lemmas.Bool.{le-leb, lt-leb}
 use Rattle.line_words.specs.Words.{number_of}
 use Rattle.line_words.specs.declared.request.LineError.{LineError}
 use Rattle.line_words.specs.declared.request.LineError.TheVariants.{Syntax}
-use Rattle.agg_session.specs.CommandWords.{usual_size, step_within, step_value, joined_value, parted_value, step_option, step_size_of}
+use Rattle.command_words.specs.CommandWords.{usual_size, step_within, step_value, joined_value, parted_value, step_option, step_size_of}
 
 pub option_none : (words : List (String Global)) → length words ≡ 0 → step_option (map string_bytes words) ≡ Some usual_size
 unfolding step_option

@@ -1,6 +1,6 @@
 use Rattle.std.proofs.Common.{sym, ◌∙◌}
-use Rattle.agg_session.proofs.CommandLaws.{size_none, size_other, size_run}
-use Rattle.agg_session.proofs.command_words.step_size_of.Goals as goal
+use Rattle.command_words.proofs.CommandLaws.{size_none, size_other, size_run}
+use Rattle.command_words.proofs.step_size.step_size_of.Goals as goal
 
 pub returns-in_err-command-clause-exact : goal.returns-in_err-command-clause-exact
 returns-in_err-command-clause-exact c = c.from_residual.ensures ∙ sym (size_none c.args.words.now c.in_err-command.ensures.cases)

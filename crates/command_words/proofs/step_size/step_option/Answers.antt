@@ -1,7 +1,7 @@
 use Rattle.std.proofs.Common.{ap, sym, ◌∙◌, arith}
-use Rattle.agg_session.specs.CommandWords.{joined_value, parted_value}
-use Rattle.agg_session.proofs.CommandLaws.{option_none, option_one, option_two, option_more}
-use Rattle.agg_session.proofs.command_words.step_option.Goals as goal
+use Rattle.command_words.specs.CommandWords.{joined_value, parted_value}
+use Rattle.command_words.proofs.CommandLaws.{option_none, option_one, option_two, option_more}
+use Rattle.command_words.proofs.step_size.step_option.Goals as goal
 
 pub returns-in-empty-clause-exact : goal.returns-in-empty-clause-exact
 returns-in-empty-clause-exact c = sym (option_none c.args.options.now (omega (arith, c.in-empty.len_below)))
