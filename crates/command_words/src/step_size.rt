@@ -10,6 +10,9 @@ const STEP_SIZE: u64 = 1_562_500;
 /// The greatest step size.
 const MOST_SIZE: u64 = 1 << 32;
 
+/// The most digits of a step size, leading zeros included.
+const MOST_DIGITS: usize = 10;
+
 /// The step size of a run; none where the words are no command.
 pub fn step_size_of(words: &[String]) -> Option<u64>
     ensures exact { result ≡ given.step_size_of (map string_bytes words.now) }
@@ -60,7 +63,7 @@ fn step_value(value: &[u8]) -> Option<u64>
     ensures exact { result ≡ given.step_value value.now }
     ensures within { IfSome result (λ size. (1 ≤ size) × (size ≤ 2 ^ 32)) }
 {
-    if value.len() > 10 {
+    if value.len() > MOST_DIGITS {
         return None;
     }
     let Ok(size) = number(value) else {
