@@ -1,5 +1,5 @@
 -- A `.kv` file as its readers see it, the words that it is made of, and its bytes.
-use Rattle.std.specs.Prelude.{◌≡◌, ℕ, ◌≤◌, ◌<◌, List, [], ◌∷◌, length, map, slice_index_or}
+use Rattle.std.specs.Prelude.{◌≡◌, ℕ, ◌+◌, ◌*◌, ◌≤◌, ◌<◌, List, [], ◌∷◌, length, map, slice_index_or}
 use Rattle.agg_model.specs.declared.entity.Entity.{Entity}
 use Rattle.agg_model.specs.declared.change.Change.{Change}
 use Rattle.agg_model.specs.declared.contents.Pair.{Pair}
@@ -10,6 +10,7 @@ use Rattle.word_file.specs.declared.tag.Tag.{Tag}
 use Rattle.word_file.specs.Spelling.{TaggedWords, spelling}
 use Rattle.word_file.specs.Reading.{tagged}
 use Rattle.btree_index.specs.Keys.{key_offsets}
+use Rattle.btree_index.specs.Levels.{levels}
 
 -- what a file is of, and its pairs
 pub record TaggedPairs : Type 0 where
@@ -21,6 +22,11 @@ tagged_pairs tag pairs = record { tag = tag; pairs = pairs }
 
 abbrev pub pairs_of_files : List TaggedPairs → List (List Pair)
 pairs_of_files files = map (λ f. f.pairs) files
+
+-- the most words that one look into each of these files reads
+abbrev pub words_read : List TaggedPairs → ℕ
+words_read [] = 0
+words_read (file ∷ files) = (8 * levels (length file.pairs) + 4) + words_read files
 
 -- a key, its value, the next key and so on
 abbrev pub words_of : List Pair → List (List ℕ)

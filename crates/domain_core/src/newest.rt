@@ -1,8 +1,8 @@
 //! Looks back through the files of steps.
-ghost use Rattle.std.specs.Prelude.{◌≡◌, map};
+ghost use Rattle.std.specs.Prelude.{◌≡◌, ◌+◌, ◌≤◌, map};
 ghost use Rattle.std.specs.Option.{option_copied};
 ghost use Rattle.agg_model.specs.Pairs.{held_value, newest_word};
-ghost use Rattle.domain_core.specs.KvFile.{pairs_of_files};
+ghost use Rattle.domain_core.specs.KvFile.{pairs_of_files, words_read};
 
 use crate::kv_file::KvFile;
 use agg_outside::Steps;
@@ -14,7 +14,8 @@ fn newest_word<'a, L: Ledger>(
     key: &[u8],
     steps: &mut Steps<L>,
 ) -> Option<&'a [u8]>
-    ensures { option_copied result ≡ newest_word (pairs_of_files files.now) key.now }
+    ensures word { option_copied result ≡ newest_word (pairs_of_files files.now) key.now }
+    ensures steps { steps.new ≤ steps.old + words_read files.now }
 {
     let mut left = files.len();
     while left > 0 {
@@ -32,7 +33,8 @@ pub fn newest_value<'a, L: Ledger>(
     key: &[u8],
     steps: &mut Steps<L>,
 ) -> Option<&'a [u8]>
-    ensures { option_copied result ≡ held_value (newest_word (pairs_of_files files.now) key.now) }
+    ensures value { option_copied result ≡ held_value (newest_word (pairs_of_files files.now) key.now) }
+    ensures steps { steps.new ≤ steps.old + words_read files.now }
 {
     match newest_word(files, key, steps) {
         Some([]) => None,
