@@ -1,11 +1,7 @@
-pub mod RowLaws
 pub mod LinkLaws
-pub mod StoreLaws
 pub mod SessionLaws
 pub mod LineLaws
 pub mod ServingLaws
 pub mod StoppingLaws
 pub mod TakingLaws
 pub mod TopLaws
-pub mod CollatingLaws
-pub mod PublishingLaws

@@ -9,6 +9,7 @@ use Rattle.std.proofs.lemmas.Bool.{ltb-false}
 use Rattle.std.specs.List.{position_or_len}
 use Rattle.std.specs.List.{position}
 use Rattle.std.specs.Option.{ForSome, option_to_list}
+use Rattle.agg_outside.specs.Files.{Files}
 use Rattle.agg_outside.specs.Rows.{Held}
 use Rattle.line_words.specs.Lines.{lines_from}
 use Rattle.line_words.specs.LineCut.{Uncut, Piece, is_feed, piece_of, cut_at, next_cut, rest_cut, pieces_of}
@@ -176,14 +177,14 @@ left_less limit cut new p is cut_is some later =
 -- ---- what is answered
 
 -- one more line is answered, and its reply written
-module _ {K : Type 0} (held : K → Option Held) (limits : Limits) (session after : Session K) (first out now : Option (List ℕ)) (start : State) (lines : List Piece) (p : Piece) (number : ℕ) (reply : List ℕ) where
-  pub answered_one : number ≡ length lines → (all : HasAnswered held limits session first out start lines) → Steps held after reply (step limits (number + 1) p (state_after limits 1 lines start)) → ForSome out (λ b. now ≡ Some (b ++ reply)) → HasAnswered held limits after first now start (lines ++ p ∷ [])
+module _ {D K : Type 0} (files : D → Option Files) (held : K → Option Held) (limits : Limits) (session after : Session D K) (first out now : Option (List ℕ)) (start : State) (lines : List Piece) (p : Piece) (number : ℕ) (reply : List ℕ) where
+  pub answered_one : number ≡ length lines → (all : HasAnswered files held limits session first out start lines) → Steps files held after reply (step limits (number + 1) p (state_after limits 1 lines start)) → ForSome out (λ b. now ≡ Some (b ++ reply)) → HasAnswered files held limits after first now start (lines ++ p ∷ [])
   answered_one count all steps put =
       let s : State = state_after limits 1 lines start in
       let at : number + 1 ≡ 1 + length lines = omega (arith, count) in
       let told : reply ≡ (step limits (1 + length lines) p s).reply = steps.told ∙ ap (λ n. (step limits n p s).reply) at in
       record {
-        stands = subst (Stands held after) (ap (λ n. (step limits n p s).state) at ∙ sym (state_after-one limits 1 lines p start)) steps.stands;
+        stands = subst (Stands files held after) (ap (λ n. (step limits n p s).state) at ∙ sym (state_after-one limits 1 lines p start)) steps.stands;
         written = λ before is.
             put (before ++ joined (replies limits 1 lines start)) (all.written before is)
             ∙ ap Some
@@ -195,29 +196,29 @@ module _ {K : Type 0} (held : K → Option Held) (limits : Limits) (session afte
       }
 
 -- nothing was cut off: what was answered stays so
-pub answered_same : {K : Type 0} (held : K → Option Held) (limits : Limits) (old new : Served K) (first out : Option (List ℕ)) (start : State) (text : List ℕ) → IsServed held limits old → new.cut ≡ record old.cut { left = (next_cut old.cut).1 } → (next_cut old.cut).0 ≡ None → new.session ≡ old.session → new.lines ≡ old.lines → IsAnswered held limits old first out start text → IsAnswered held limits new first out start text
-answered_same held limits old new first out start text served cut none session lines all = record {
+pub answered_same : {D K : Type 0} (files : D → Option Files) (held : K → Option Held) (limits : Limits) (old new : Served D K) (first out : Option (List ℕ)) (start : State) (text : List ℕ) → IsServed held limits old → new.cut ≡ record old.cut { left = (next_cut old.cut).1 } → (next_cut old.cut).0 ≡ None → new.session ≡ old.session → new.lines ≡ old.lines → IsAnswered files held limits old first out start text → IsAnswered files held limits new first out start text
+answered_same files held limits old new first out start text served cut none session lines all = record {
   lines = all.lines;
   cuts = λ later. all.cuts later ∙ ap (λ (ps : List Piece). all.lines ++ ps) (left_same limits.line old.cut new.cut served.limit cut none later);
   count = lines ∙ all.count;
-  all = subst (λ (s : Session _). HasAnswered held limits s first out start all.lines) (sym session) all.all;
+  all = subst (λ (s : Session _ _). HasAnswered files held limits s first out start all.lines) (sym session) all.all;
 }
 
-answered_more-by : {K : Type 0} (held : K → Option Held) (limits : Limits) (old new : Served K) (o : Option Piece) (reply : List ℕ) (first out now : Option (List ℕ)) (start : State) (text : List ℕ) → IsServed held limits old → new.cut ≡ record old.cut { left = (next_cut old.cut).1 } → (next_cut old.cut).0 ≡ o → true ≡ is_some o → new.lines ≡ old.lines + 1 → (all : IsAnswered held limits old first out start text) → IfSome o (λ piece. Steps held new.session reply (step limits (old.lines + 1) piece (state_after limits 1 all.lines start))) → ForSome out (λ b. now ≡ Some (b ++ reply)) → IsAnswered held limits new first now start text
-answered_more-by held limits old new None reply first out now start text served cut is some lines all steps put = cc
-answered_more-by held limits old new (Some p) reply first out now start text served cut is some lines all steps put = record {
+answered_more-by : {D K : Type 0} (files : D → Option Files) (held : K → Option Held) (limits : Limits) (old new : Served D K) (o : Option Piece) (reply : List ℕ) (first out now : Option (List ℕ)) (start : State) (text : List ℕ) → IsServed held limits old → new.cut ≡ record old.cut { left = (next_cut old.cut).1 } → (next_cut old.cut).0 ≡ o → true ≡ is_some o → new.lines ≡ old.lines + 1 → (all : IsAnswered files held limits old first out start text) → IfSome o (λ piece. Steps files held new.session reply (step limits (old.lines + 1) piece (state_after limits 1 all.lines start))) → ForSome out (λ b. now ≡ Some (b ++ reply)) → IsAnswered files held limits new first now start text
+answered_more-by files held limits old new None reply first out now start text served cut is some lines all steps put = cc
+answered_more-by files held limits old new (Some p) reply first out now start text served cut is some lines all steps put = record {
   lines = all.lines ++ p ∷ [];
   cuts = λ later.
       all.cuts later ∙ ap (λ (ps : List Piece). all.lines ++ ps) (left_less limits.line old.cut new.cut p served.limit cut is later)
       ∙ sym (append_assoc all.lines (p ∷ []) (pieces_of limits.line (new.cut.left ++ later)));
   count = omega (arith, lines, all.count, length-append all.lines (p ∷ []));
-  all = answered_one held limits old.session new.session first out now start all.lines p old.lines reply all.count all.all steps put;
+  all = answered_one files held limits old.session new.session first out now start all.lines p old.lines reply all.count all.all steps put;
 }
 
 -- a line was cut off and its reply written
-pub answered_more : {K : Type 0} (held : K → Option Held) (limits : Limits) (old new : Served K) (reply : List ℕ) (first out now : Option (List ℕ)) (start : State) (text : List ℕ) → IsServed held limits old → new.cut ≡ record old.cut { left = (next_cut old.cut).1 } → true ≡ is_some (next_cut old.cut).0 → new.lines ≡ old.lines + 1 → ((s : State) → Stands held old.session s → IfSome (next_cut old.cut).0 (λ piece. Steps held new.session reply (step limits (old.lines + 1) piece s))) → ForSome out (λ b. now ≡ Some (b ++ reply)) → IsAnswered held limits old first out start text → IsAnswered held limits new first now start text
-answered_more held limits old new reply first out now start text served cut some lines exact put all =
-    answered_more-by held limits old new (next_cut old.cut).0 reply first out now start text served cut refl some lines all (exact (state_after limits 1 all.lines start) all.all.stands) put
+pub answered_more : {D K : Type 0} (files : D → Option Files) (held : K → Option Held) (limits : Limits) (old new : Served D K) (reply : List ℕ) (first out now : Option (List ℕ)) (start : State) (text : List ℕ) → IsServed held limits old → new.cut ≡ record old.cut { left = (next_cut old.cut).1 } → true ≡ is_some (next_cut old.cut).0 → new.lines ≡ old.lines + 1 → ((s : State) → Stands files held old.session s → IfSome (next_cut old.cut).0 (λ piece. Steps files held new.session reply (step limits (old.lines + 1) piece s))) → ForSome out (λ b. now ≡ Some (b ++ reply)) → IsAnswered files held limits old first out start text → IsAnswered files held limits new first now start text
+answered_more files held limits old new reply first out now start text served cut some lines exact put all =
+    answered_more-by files held limits old new (next_cut old.cut).0 reply first out now start text served cut refl some lines all (exact (state_after limits 1 all.lines start) all.all.stands) put
 
 pub none_there : {A : Type 0} (o : Option A) → false ≡ is_some o → o ≡ None
 none_there None e = refl
@@ -233,8 +234,8 @@ if_some (Some y) P x e h = let same : y ≡ x = cc in subst P same h
 
 -- ---- a piece that came
 
-pub answered_pushed : {K : Type 0} (held : K → Option Held) (limits : Limits) (old new : Served K) (piece : List ℕ) (first out : Option (List ℕ)) (start : State) (text : List ℕ) → new.cut ≡ record old.cut { left = old.cut.left ++ piece } → new.session ≡ old.session → new.lines ≡ old.lines → IsAnswered held limits old first out start text → IsAnswered held limits new first out start (text ++ piece)
-answered_pushed held limits old new piece first out start text cut session lines all =
+pub answered_pushed : {D K : Type 0} (files : D → Option Files) (held : K → Option Held) (limits : Limits) (old new : Served D K) (piece : List ℕ) (first out : Option (List ℕ)) (start : State) (text : List ℕ) → new.cut ≡ record old.cut { left = old.cut.left ++ piece } → new.session ≡ old.session → new.lines ≡ old.lines → IsAnswered files held limits old first out start text → IsAnswered files held limits new first out start (text ++ piece)
+answered_pushed files held limits old new piece first out start text cut session lines all =
     let left : new.cut.left ≡ old.cut.left ++ piece = ap (λ (u : Uncut). u.left) cut in
     let grown : (later : List ℕ) → old.cut.left ++ (piece ++ later) ≡ new.cut.left ++ later = λ later.
     sym (append_assoc old.cut.left piece later) ∙ ap (λ l. l ++ later) (sym left) in
@@ -244,7 +245,7 @@ answered_pushed held limits old new piece first out start text cut session lines
           ap (pieces_of limits.line) (append_assoc text piece later) ∙ all.cuts (piece ++ later)
           ∙ ap (λ t. all.lines ++ pieces_of limits.line t) (grown later);
       count = lines ∙ all.count;
-      all = subst (λ (s : Session _). HasAnswered held limits s first out start all.lines) (sym session) all.all;
+      all = subst (λ (s : Session _ _). HasAnswered files held limits s first out start all.lines) (sym session) all.all;
     }
 
 -- ---- the last line
@@ -258,24 +259,24 @@ pub last_piece : (limit : ℕ) (cut : Uncut) (o : Option Piece) → cut.limit �
 last_piece limit cut o is none rest =
     subst (λ n. pieces_of n cut.left ≡ option_to_list o) is (rest_cut-lines cut none ∙ ap option_to_list rest)
 
-pub finished_same : {K : Type 0} (held : K → Option Held) (limits : Limits) (old : Served K) (session : Session K) (first out : Option (List ℕ)) (start : State) (text : List ℕ) → IsServed held limits old → (next_cut old.cut).0 ≡ None → false ≡ is_some (rest_cut old.cut) → session ≡ old.session → IsAnswered held limits old first out start text → HasAnswered held limits session first out start (pieces_of limits.line text)
-finished_same held limits old session first out start text served none rest is all =
+pub finished_same : {D K : Type 0} (files : D → Option Files) (held : K → Option Held) (limits : Limits) (old : Served D K) (session : Session D K) (first out : Option (List ℕ)) (start : State) (text : List ℕ) → IsServed held limits old → (next_cut old.cut).0 ≡ None → false ≡ is_some (rest_cut old.cut) → session ≡ old.session → IsAnswered files held limits old first out start text → HasAnswered files held limits session first out start (pieces_of limits.line text)
+finished_same files held limits old session first out start text served none rest is all =
     let whole : pieces_of limits.line text ≡ all.lines =
     whole_text limits.line text old.cut.left all.lines all.cuts
     ∙ ap (λ (ps : List Piece). all.lines ++ ps) (last_piece limits.line old.cut None served.limit none (none_there (rest_cut old.cut) rest))
     ∙ append-nil all.lines in
-    subst (λ (ps : List Piece). HasAnswered held limits session first out start ps) (sym whole)
-    (subst (λ (s : Session _). HasAnswered held limits s first out start all.lines) (sym is) all.all)
+    subst (λ (ps : List Piece). HasAnswered files held limits session first out start ps) (sym whole)
+    (subst (λ (s : Session _ _). HasAnswered files held limits s first out start all.lines) (sym is) all.all)
 
-finished_more-by : {K : Type 0} (held : K → Option Held) (limits : Limits) (old : Served K) (session : Session K) (o : Option Piece) (reply : List ℕ) (first out now : Option (List ℕ)) (start : State) (text : List ℕ) → IsServed held limits old → (next_cut old.cut).0 ≡ None → rest_cut old.cut ≡ o → true ≡ is_some o → (all : IsAnswered held limits old first out start text) → IfSome o (λ piece. Steps held session reply (step limits (old.lines + 1) piece (state_after limits 1 all.lines start))) → ForSome out (λ b. now ≡ Some (b ++ reply)) → HasAnswered held limits session first now start (pieces_of limits.line text)
-finished_more-by held limits old session None reply first out now start text served none is some all steps put = cc
-finished_more-by held limits old session (Some p) reply first out now start text served none is some all steps put =
+finished_more-by : {D K : Type 0} (files : D → Option Files) (held : K → Option Held) (limits : Limits) (old : Served D K) (session : Session D K) (o : Option Piece) (reply : List ℕ) (first out now : Option (List ℕ)) (start : State) (text : List ℕ) → IsServed held limits old → (next_cut old.cut).0 ≡ None → rest_cut old.cut ≡ o → true ≡ is_some o → (all : IsAnswered files held limits old first out start text) → IfSome o (λ piece. Steps files held session reply (step limits (old.lines + 1) piece (state_after limits 1 all.lines start))) → ForSome out (λ b. now ≡ Some (b ++ reply)) → HasAnswered files held limits session first now start (pieces_of limits.line text)
+finished_more-by files held limits old session None reply first out now start text served none is some all steps put = cc
+finished_more-by files held limits old session (Some p) reply first out now start text served none is some all steps put =
     let whole : pieces_of limits.line text ≡ all.lines ++ p ∷ [] =
     whole_text limits.line text old.cut.left all.lines all.cuts
     ∙ ap (λ (ps : List Piece). all.lines ++ ps) (last_piece limits.line old.cut (Some p) served.limit none is) in
-    subst (λ (ps : List Piece). HasAnswered held limits session first now start ps) (sym whole)
-    (answered_one held limits old.session session first out now start all.lines p old.lines reply all.count all.all steps put)
+    subst (λ (ps : List Piece). HasAnswered files held limits session first now start ps) (sym whole)
+    (answered_one files held limits old.session session first out now start all.lines p old.lines reply all.count all.all steps put)
 
-pub finished_more : {K : Type 0} (held : K → Option Held) (limits : Limits) (old : Served K) (session : Session K) (reply : List ℕ) (first out now : Option (List ℕ)) (start : State) (text : List ℕ) → IsServed held limits old → (next_cut old.cut).0 ≡ None → true ≡ is_some (rest_cut old.cut) → ((s : State) → Stands held old.session s → IfSome (rest_cut old.cut) (λ piece. Steps held session reply (step limits (old.lines + 1) piece s))) → ForSome out (λ b. now ≡ Some (b ++ reply)) → IsAnswered held limits old first out start text → HasAnswered held limits session first now start (pieces_of limits.line text)
-finished_more held limits old session reply first out now start text served none some exact put all =
-    finished_more-by held limits old session (rest_cut old.cut) reply first out now start text served none refl some all (exact (state_after limits 1 all.lines start) all.all.stands) put
+pub finished_more : {D K : Type 0} (files : D → Option Files) (held : K → Option Held) (limits : Limits) (old : Served D K) (session : Session D K) (reply : List ℕ) (first out now : Option (List ℕ)) (start : State) (text : List ℕ) → IsServed held limits old → (next_cut old.cut).0 ≡ None → true ≡ is_some (rest_cut old.cut) → ((s : State) → Stands files held old.session s → IfSome (rest_cut old.cut) (λ piece. Steps files held session reply (step limits (old.lines + 1) piece s))) → ForSome out (λ b. now ≡ Some (b ++ reply)) → IsAnswered files held limits old first out start text → HasAnswered files held limits session first now start (pieces_of limits.line text)
+finished_more files held limits old session reply first out now start text served none some exact put all =
+    finished_more-by files held limits old session (rest_cut old.cut) reply first out now start text served none refl some all (exact (state_after limits 1 all.lines start) all.all.stands) put

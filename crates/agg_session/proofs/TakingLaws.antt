@@ -3,6 +3,7 @@ use Rattle.std.proofs.Common.{◌≡◌, ℕ, ◌+◌, ◌<◌, ◌≤◌, ◌�
 use Rattle.std.specs.Option.{ForSome}
 use Rattle.std.proofs.lemmas.List.{take-append-drop}
 use Rattle.std.proofs.lemmas.Grind.{common_steps}
+use Rattle.agg_outside.specs.Files.{Files}
 use Rattle.agg_outside.specs.Rows.{Held}
 use Rattle.line_words.specs.LineCut.{next_cut, pieces_of}
 use Rattle.agg_session.specs.declared.limits.Limits.{Limits}
@@ -68,16 +69,16 @@ ends_long left after text most taken is = λ input told.
 
 -- ---- how far a source was taken
 
-module _ {K : Type 0} (held : K → Option Held) (limits : Limits) (old now : Served K) (out_old out left_old left : Option (List ℕ)) (taken : ℕ) where
-  pub begins : now ≡ old → out ≡ out_old → left ≡ left_old → taken ≡ 0 → Progress held limits old now out_old out left_old left taken
+module _ {D K : Type 0} (files : D → Option Files) (held : K → Option Held) (limits : Limits) (old now : Served D K) (out_old out left_old left : Option (List ℕ)) (taken : ℕ) where
+  pub begins : now ≡ old → out ≡ out_old → left ≡ left_old → taken ≡ 0 → Progress files held limits old now out_old out left_old left taken
   begins same quiet is zero = record {
     text = [];
     is_taken = untaken left_old left is;
     counted = sym zero;
-    answers = λ start first all. subst (λ (x : Served K). IsAnswered held limits x first out start []) (sym same) (subst (λ o. IsAnswered held limits old first o start []) (sym quiet) all);
+    answers = λ start first all. subst (λ (x : Served D K). IsAnswered files held limits x first out start []) (sym same) (subst (λ o. IsAnswered files held limits old first o start []) (sym quiet) all);
   }
 
-  pub goes_on : (after : Served K) (out_after left_after : Option (List ℕ)) (count : ℕ) → Progress held limits old now out_old out left_old left taken → Takes held limits now after out out_after left left_after count → Progress held limits old after out_old out_after left_old left_after (taken + count)
+  pub goes_on : (after : Served D K) (out_after left_after : Option (List ℕ)) (count : ℕ) → Progress files held limits old now out_old out left_old left taken → Takes files held limits now after out out_after left left_after count → Progress files held limits old after out_old out_after left_old left_after (taken + count)
   goes_on after out_after left_after count p t = record {
     text = p.text ++ t.piece;
     is_taken = taken_more left_old left left_after p.text t.piece p.is_taken t.is_taken;
@@ -86,7 +87,7 @@ module _ {K : Type 0} (held : K → Option Held) (limits : Limits) (old now : Se
   }
 
   -- at the end of the source the last line is answered too
-  pub serves_all : (mid : Served K) (out_mid : Option (List ℕ)) (after : Served K) (out_after left_after : Option (List ℕ)) (count : ℕ) → count ≡ 0 → taken < limits.bytes → Progress held limits old now out_old out left_old left taken → Takes held limits now mid out out_mid left left_after count → ((start : State) (first : Option (List ℕ)) (text : List ℕ) → IsAnswered held limits mid first out_mid start text → HasAnswered held limits after.session first out_after start (pieces_of limits.line text)) → ServesAll held limits old after out_old out_after left_old left_after
+  pub serves_all : (mid : Served D K) (out_mid : Option (List ℕ)) (after : Served D K) (out_after left_after : Option (List ℕ)) (count : ℕ) → count ≡ 0 → taken < limits.bytes → Progress files held limits old now out_old out left_old left taken → Takes files held limits now mid out out_mid left left_after count → ((start : State) (first : Option (List ℕ)) (text : List ℕ) → IsAnswered files held limits mid first out_mid start text → HasAnswered files held limits after.session first out_after start (pieces_of limits.line text)) → ServesAll files held limits old after out_old out_after left_old left_after
   serves_all mid out_mid after out_after left_after count zero within p t finishes = record {
     text = p.text ++ t.piece;
     is_taken = taken_more left_old left left_after p.text t.piece p.is_taken t.is_taken;
@@ -96,7 +97,7 @@ module _ {K : Type 0} (held : K → Option Held) (limits : Limits) (old now : Se
   }
 
   -- or it is answered in part
-  pub last_part : (mid : Served K) (out_mid : Option (List ℕ)) (after : Served K) (out_after left_after : Option (List ℕ)) (count : ℕ) → count ≡ 0 → taken < limits.bytes → Progress held limits old now out_old out left_old left taken → Takes held limits now mid out out_mid left left_after count → ((start : State) (first : Option (List ℕ)) (text : List ℕ) → IsAnswered held limits mid first out_mid start text → HasStopped held limits after.session.store first out_after start (pieces_of limits.line text)) → ServesPart held limits old after out_old out_after left_old left_after
+  pub last_part : (mid : Served D K) (out_mid : Option (List ℕ)) (after : Served D K) (out_after left_after : Option (List ℕ)) (count : ℕ) → count ≡ 0 → taken < limits.bytes → Progress files held limits old now out_old out left_old left taken → Takes files held limits now mid out out_mid left left_after count → ((start : State) (first : Option (List ℕ)) (text : List ℕ) → IsAnswered files held limits mid first out_mid start text → HasStopped files held limits after.session.store first out_after start (pieces_of limits.line text)) → ServesPart files held limits old after out_old out_after left_old left_after
   last_part mid out_mid after out_after left_after count zero within p t finishes = record {
     text = p.text ++ t.piece;
     is_taken = taken_more left_old left left_after p.text t.piece p.is_taken t.is_taken;
@@ -107,7 +108,7 @@ module _ {K : Type 0} (held : K → Option Held) (limits : Limits) (old now : Se
   }
 
   -- a piece was taken whose lines are answered in part
-  pub piece_part : (room : ℕ) (after : Served K) (out_after left_after : Option (List ℕ)) → taken + room ≤ limits.bytes → Progress held limits old now out_old out left_old left taken → TakesPart held limits room now after out out_after left left_after → ServesPart held limits old after out_old out_after left_old left_after
+  pub piece_part : (room : ℕ) (after : Served D K) (out_after left_after : Option (List ℕ)) → taken + room ≤ limits.bytes → Progress files held limits old now out_old out left_old left taken → TakesPart files held limits room now after out out_after left left_after → ServesPart files held limits old after out_old out_after left_old left_after
   piece_part room after out_after left_after within p t = record {
     text = p.text ++ t.piece;
     is_taken = taken_more left_old left left_after p.text t.piece p.is_taken t.is_taken;
@@ -118,18 +119,18 @@ module _ {K : Type 0} (held : K → Option Held) (limits : Limits) (old now : Se
   }
 
   -- between two takes
-  pub serves_ended : (after : Served K) (out_after left_after : Option (List ℕ)) → after ≡ now → out_after ≡ out → left_after ≡ left → taken ≤ limits.bytes → IsServed held limits now → (next_cut now.cut).0 ≡ None → Progress held limits old now out_old out left_old left taken → ServesEnded held limits old after out_old out_after left_old left_after
+  pub serves_ended : (after : Served D K) (out_after left_after : Option (List ℕ)) → after ≡ now → out_after ≡ out → left_after ≡ left → taken ≤ limits.bytes → IsServed held limits now → (next_cut now.cut).0 ≡ None → Progress files held limits old now out_old out left_old left taken → ServesEnded files held limits old after out_old out_after left_old left_after
   serves_ended after out_after left_after same quiet is within sound none p = record {
     text = p.text;
     is_taken = subst (λ o. IsTaken left_old p.text o) (sym is) p.is_taken;
     within = omega (arith, p.counted);
     answers = λ start first all.
-        subst (λ (x : Served K). HasAnswered held limits x.session first out_after start (ended_lines limits.line p.text)) (sym same)
-        (subst (λ o. HasAnswered held limits now.session first o start (ended_lines limits.line p.text)) (sym quiet)
-        (all_ended held limits now first out start p.text sound none (p.answers start first all)));
+        subst (λ (x : Served D K). HasAnswered files held limits x.session first out_after start (ended_lines limits.line p.text)) (sym same)
+        (subst (λ o. HasAnswered files held limits now.session first o start (ended_lines limits.line p.text)) (sym quiet)
+        (all_ended files held limits now first out start p.text sound none (p.answers start first all)));
   }
 
-  pub ended_part : (after : Served K) (out_after left_after : Option (List ℕ)) → after ≡ now → out_after ≡ out → left_after ≡ left → taken ≤ limits.bytes → Progress held limits old now out_old out left_old left taken → ServesPart held limits old after out_old out_after left_old left_after
+  pub ended_part : (after : Served D K) (out_after left_after : Option (List ℕ)) → after ≡ now → out_after ≡ out → left_after ≡ left → taken ≤ limits.bytes → Progress files held limits old now out_old out left_old left taken → ServesPart files held limits old after out_old out_after left_old left_after
   ended_part after out_after left_after same quiet is within p = record {
     text = p.text;
     is_taken = subst (λ o. IsTaken left_old p.text o) (sym is) p.is_taken;
@@ -137,7 +138,7 @@ module _ {K : Type 0} (held : K → Option Held) (limits : Limits) (old now : Se
     lines = ended_lines limits.line (p.text ++ []);
     due = inl (ap (ended_lines limits.line) (append-nil p.text));
     answers = λ start first all.
-        stops_before held limits now after.session.store first out out_after start p.text [] (ap (λ (x : Served K). x.session.store) same) quiet (p.answers start first all);
+        stops_before files held limits now after.session.store first out out_after start p.text [] (ap (λ (x : Served D K). x.session.store) same) quiet (p.answers start first all);
   }
 
 -- how a link ends whose last line was worked on

@@ -1,13 +1,8 @@
-pub mod Rows
 pub mod State
 pub mod Answer
 pub mod Links
-pub mod Store
-pub mod Stop
 pub mod Running
 pub mod Ends
 pub mod Top
 pub mod Served
 pub mod Written
-pub mod Collating
-pub mod Publishing

@@ -1,5 +1,5 @@
 -- When a link's fields are in order, and which state they stand for.
-use Rattle.std.specs.Prelude.{◌≡◌, ℕ, ◌<◌, ◌≤◌, ◌^◌, List, [], ◌∷◌, map, length, Option, Some, None, unwrap_or, IfSome, slice_get, remove, ◌==◌, if◌then◌else◌, All}
+use Rattle.std.specs.Prelude.{◌≡◌, ℕ, ◌*◌, ◌<◌, ◌≤◌, ◌^◌, List, [], ◌∷◌, map, length, Option, Some, None, unwrap_or, slice_get, remove, ◌==◌, if◌then◌else◌, All}
 use Rattle.agg_model.specs.Batch.{IsBatch, content_of}
 use Rattle.agg_model.specs.declared.change.Change.{Change}
 use Rattle.agg_session.specs.declared.limits.Limits.{Limits}
@@ -24,10 +24,10 @@ pub record IsLink (limits : Limits) (far : ℕ) (link : Link) : Type 0 where
 abbrev pub fresh : Link
 fresh = record { pending = []; held = 0; now = None; opens = 0; transactions = [] }
 
--- below which number the transaction reads, where it is open
-abbrev pub at_of : ℕ → List Transaction → Option ℕ
-at_of number [] = None
-at_of number (t ∷ ts) = if t.number == number then Some t.at else at_of number ts
+-- the transaction of the number, where it is open
+abbrev pub open_of : ℕ → List Transaction → Option Transaction
+open_of number [] = None
+open_of number (t ∷ ts) = if t.number == number then Some t else open_of number ts
 
 -- the transactions without the first of this number
 abbrev pub others : ℕ → List Transaction → List Transaction
@@ -37,16 +37,27 @@ others number (t ∷ ts) = if t.number == number then ts else t ∷ others numbe
 -- the transaction at the place is the first of this number
 pub record IsPlaceOf (number : ℕ) (ts : List Transaction) (i : ℕ) : Type 0 where
   pub within : i < length ts
-  pub there : IfSome (slice_get ts i) (λ t. at_of number ts ≡ Some t.at)
+  pub there : open_of number ts ≡ slice_get ts i
   pub rest : others number ts ≡ remove ts i
 
--- an open transaction as the link has it
-abbrev pub transaction_of : Opening → Transaction
-transaction_of o = record { number = o.number; at = o.list.next }
+-- a transaction reads files that are there, and only those of complete steps below its next number
+abbrev pub HasFiles : ℕ → ℕ → Transaction → Type 0
+HasFiles files size t = (t.files ≤ files) × (t.files * size ≤ t.at)
+
+-- an open transaction, apart from the files that it reads
+pub record Opened : Type 0 where
+  pub number : ℕ
+  pub at : ℕ
+
+abbrev pub opened_as : Transaction → Opened
+opened_as t = record { number = t.number; at = t.at }
+
+abbrev pub opened_of : Opening → Opened
+opened_of o = record { number = o.number; at = o.list.next }
 
 -- the link has what the state has beside the list
 pub record LinkStands (link : Link) (s : State) : Type 0 where
   pub pending : link.pending ≡ s.pending
   pub now : link.now ≡ s.now
   pub opens : link.opens ≡ s.opens
-  pub transactions : link.transactions ≡ map transaction_of s.transactions
+  pub transactions : map opened_as link.transactions ≡ map opened_of s.transactions

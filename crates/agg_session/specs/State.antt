@@ -1,11 +1,14 @@
 -- What a session is between two lines, and what each request makes of it.
-use Rattle.std.specs.Prelude.{ℕ, ◌+◌, ◌*◌, Bool, true, false, ◌&&◌, ◌==◌, nat_lt, nat_le, if◌then◌else◌, List, [], ◌∷◌, ◌++◌, length, Option, Some, None}
+use Rattle.std.specs.Prelude.{ℕ, ◌+◌, ◌*◌, Bool, true, ◌&&◌, ◌==◌, nat_lt, nat_le, if◌then◌else◌, List, [], ◌∷◌, ◌++◌, map, length, Option, Some, None}
 use Rattle.agg_model.specs.declared.entity.Entity.{Entity}
 use Rattle.agg_model.specs.declared.change.Act.TheVariants.{Put}
 use Rattle.agg_model.specs.declared.change.Change.{Change}
 use Rattle.agg_model.specs.Batch.{content_of}
 use Rattle.agg_model.specs.ChangeList.{ChangeList, latest, next_of, grown}
 use Rattle.agg_model.specs.Merged.{merged}
+use Rattle.merge_ranges.specs.Name.{spelled}
+use Rattle.plain_state.specs.Canonical.{canonical_names}
+use Rattle.plain_state.specs.Store.{may_grow}
 use Rattle.line_words.specs.declared.request.Request.{Request}
 use Rattle.line_words.specs.declared.request.Request.TheVariants as on
 use Rattle.line_words.specs.declared.reply.Reply.{Reply}
@@ -74,15 +77,8 @@ put_on limits (Some n) e k v s = change_on limits (record { tx = n; entity = e; 
 abbrev pub cleared : State → State
 cleared s = record s { pending = []; now = None }
 
--- there is a first number, and it is not below the next one
-abbrev pub begins_from : ℕ → List Change → Bool
-begins_from next [] = false
-begins_from next (c ∷ cs) = nat_le next c.tx
-
 abbrev pub may_commit : Limits → State → Bool
-may_commit limits s =
-    begins_from s.list.next s.pending
-    && nat_le (content_of s.list.changes + content_of (merged s.pending)) limits.content
+may_commit limits s = may_grow limits.content s.list s.pending
 
 -- `commit`: the pending changes, of repeats the last, join the list
 abbrev pub commit_on : Limits → State → Outcome
@@ -121,6 +117,10 @@ abbrev pub latest_on : Option ChangeList → Entity → List ℕ → State → O
 latest_on None e k s = refused s
 latest_on (Some list) e k s = accepted s (value_reply (latest list e k))
 
+-- `settle`: all complete steps are in files, which are named
+abbrev pub settle_on : State → Outcome
+settle_on s = accepted s (says.Files (map spelled (canonical_names s.list)))
+
 -- the outcome of a request
 abbrev pub outcome : Limits → Request → State → Outcome
 outcome limits (on.Tx n) s = number_on n s
@@ -129,3 +129,4 @@ outcome limits on.Commit s = commit_on limits s
 outcome limits on.Open s = open_on limits s
 outcome limits (on.Close t) s = close_on t (list_at t s.transactions) s
 outcome limits (on.Latest t e k) s = latest_on (list_at t s.transactions) e k s
+outcome limits on.Settle s = settle_on s

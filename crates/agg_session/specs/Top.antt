@@ -1,6 +1,7 @@
 -- What the top call says of a run.
 use Rattle.std.specs.Prelude.{◌≡◌, ◌⊎◌, ℕ, ◌+◌, ◌<◌, ◌≤◌, List, [], ◌++◌, length, IsSomeAnd, Option, Some}
 use Rattle.std.specs.Option.{ForSome}
+use Rattle.agg_outside.specs.Files.{Files}
 use Rattle.agg_outside.specs.Rows.{Held}
 use Rattle.agg_model.specs.ChangeList.{ChangeList}
 use Rattle.agg_session.specs.declared.limits.Limits.{Limits}
@@ -10,7 +11,10 @@ use Rattle.agg_session.specs.declared.ends.LinkEnd.{LinkEnd}
 use Rattle.agg_session.specs.declared.ends.LinkEnd.TheVariants as ends
 use Rattle.line_words.specs.LineCut.{Piece}
 use Rattle.agg_session.specs.State.{starting}
-use Rattle.agg_session.specs.Rows.{held_for}
+use Rattle.plain_state.specs.Canonical.{complete_steps, canonical_names, files_named}
+use Rattle.plain_state.specs.Rows.{held_for}
+use Rattle.plain_state.specs.declared.store.Store.{Store}
+use Rattle.plain_state.specs.Store.{Holds, HasFilesOf}
 use Rattle.agg_session.specs.Answer.{answer, after, joined, replies, state_after, ended_lines, IsPartway}
 use Rattle.agg_session.specs.Served.{IsTaken, IsAtEnd, AreDue}
 
@@ -31,6 +35,7 @@ abbrev pub status_of : LinkEnd → Status
 status_of ends.Done = status.Done
 status_of ends.Source = status.SourceFault
 status_of ends.Sink = status.SinkFault
+status_of ends.Disk = status.DiskFault
 status_of ends.Keeper = status.KeeperFault
 status_of ends.Long = status.Long
 status_of ends.Memory = status.Memory
@@ -39,33 +44,50 @@ status_of ends.Memory = status.Memory
 abbrev pub HasRowsOf : Option Held → ChangeList → Type 0
 HasRowsOf held list = held ≡ Some (held_for list.changes)
 
--- The source was taken to its end, and what was written is the replies to all of it.
-pub record EndsWhole (limits : Limits) (list : ChangeList) (left_old left out_old out : Option (List ℕ)) (held : Option Held) : Type 0 where
+-- a disk that tells holds the canonical files of the list, and no others
+abbrev pub HasAllFilesOf : Option Files → ChangeList → Type 0
+HasAllFilesOf files list = ForSome files (λ f. f ≡ files_named list (canonical_names list))
+
+-- the store holds the list, and all complete steps are in files
+pub record IsSettled {D K : Type 0} (files : D → Option Files) (held : K → Option Held) (store : Store D K) (list : ChangeList) : Type 0 where
+  pub holds : Holds files held store list
+  pub all : length store.files ≡ complete_steps list
+
+-- keeper and disk are as a run over the list leaves them: all its rows, and of its files the first so
+-- many, whole
+pub record AreLeft (held : Option Held) (files : Option Files) (list : ChangeList) : Type 0 where
+  pub rows : HasRowsOf held list
+  pub stand : ForSome files (HasFilesOf list)
+
+-- The source was taken to its end, what was written is the replies to all of it, and all complete steps
+-- are in files.
+pub record EndsWhole (limits : Limits) (list : ChangeList) (left_old left out_old out : Option (List ℕ)) (held : Option Held) (files : Option Files) : Type 0 where
   pub text : List ℕ
   pub is_taken : IsTaken left_old text left
   pub all : IsAtEnd left_old left
   pub within : length text < limits.bytes
   pub written : ForSome out_old (λ before. out ≡ Some (before ++ answer limits list text))
   pub rows : HasRowsOf held (after limits list text)
+  pub stand : HasAllFilesOf files (after limits list text)
 
 -- The source was taken in part, and what was written is the replies to all lines whose line feed was
 -- taken.
-pub record EndsBetween (limits : Limits) (list : ChangeList) (left_old left out_old out : Option (List ℕ)) (held : Option Held) : Type 0 where
+pub record EndsBetween (limits : Limits) (list : ChangeList) (left_old left out_old out : Option (List ℕ)) (held : Option Held) (files : Option Files) : Type 0 where
   pub text : List ℕ
   pub is_taken : IsTaken left_old text left
   pub within : length text ≤ limits.bytes
   pub written : ForSome out_old (λ before. out ≡ Some (before ++ joined (replies limits 1 (ended_lines limits.line text) (starting list))))
-  pub rows : HasRowsOf held (state_after limits 1 (ended_lines limits.line text) (starting list)).list
+  pub kept : AreLeft held files (state_after limits 1 (ended_lines limits.line text) (starting list)).list
 
 -- The source was taken in part, and what was written is the replies to its first lines and a part of
 -- the next one's.
-pub record EndsWithin (limits : Limits) (list : ChangeList) (left_old left out_old out : Option (List ℕ)) (held : Option Held) : Type 0 where
+pub record EndsWithin (limits : Limits) (list : ChangeList) (left_old left out_old out : Option (List ℕ)) (held : Option Held) (files : Option Files) : Type 0 where
   pub text : List ℕ
   pub is_taken : IsTaken left_old text left
   pub within : length text ≤ limits.bytes
   pub lines : List Piece
   pub due : AreDue limits.line text left_old left lines
-  pub partway : IsPartway limits (starting list) lines out_old out (HasRowsOf held)
+  pub partway : IsPartway limits (starting list) lines out_old out (AreLeft held files)
 
 -- the statuses of a run that began and was not done
 abbrev pub IsCutShort : Status → Type 0

@@ -2,8 +2,8 @@ ghost use Rattle.std.specs.Prelude.{◌≡◌};
 ghost use Rattle.agg_session.specs.Ends.{end_of_stop, end_of_sink};
 ghost use Rattle.agg_session.specs.declared.ends.LinkEnd.TheVariants.{Memory as wants_memory};
 
-use crate::stop::Stop;
 use agg_outside::{Memory, SinkError};
+use plain_state::Stop;
 
 /// How a link ended.
 #[derive(Clone, Copy, Debug, PartialEq, Eq)]
@@ -14,6 +14,8 @@ pub enum LinkEnd {
     Source,
     /// The sink counted a fault.
     Sink,
+    /// The disk counted a fault.
+    Disk,
     /// The keeper counted a fault.
     Keeper,
     /// As many bytes were taken as may be.
@@ -27,6 +29,7 @@ impl From<Stop> for LinkEnd {
 
     fn from(stop: Stop) -> LinkEnd {
         match stop {
+            Stop::Disk => LinkEnd::Disk,
             Stop::Keeper => LinkEnd::Keeper,
             Stop::Memory => LinkEnd::Memory,
         }

@@ -1,99 +1,220 @@
+ghost use Rattle.std.specs.Prelude.{◌≡◌, ◌<◌, ◌≤◌, ◌^◌, [], IfOk};
+
 use crate::tests::empty_keeper;
 use crate::*;
-use agg_model::*;
 use agg_outside::*;
 use memory_side::*;
-use merge_ranges::FileName;
 use std::alloc::Global;
+use std::process::Abort;
 use std::test::Fail;
 
-// The rows that a session over these lines leaves; a step has four numbers.
-fn rows_after(alloc: Global, text: &[u8]) -> Result<MemKeeper, Memory> {
+// A disk without a file, of which these calls fail.
+fn empty_disk(alloc: Global, fails: &[u64]) -> Result<MemDisk, Memory>
+    ensures { IfOk result (λ d. d.files ≡ []) }
+{
+    MemDisk::new(alloc, &FileMap::new(alloc), fails)
+}
+
+// How a run ends, what it writes and what it leaves on the disk.
+#[derive(Drop)]
+struct Run {
+    status: Status,
+    replies: Bytes,
+    disk: MemDisk,
+}
+
+fn run_over(alloc: Global, size: u64, fails: &[u64], text: &[u8]) -> Result<Run, Memory>
+    requires from_one { 1 ≤ size }
+    requires within { size ≤ 2 ^ 32 }
+{
+    let disk = empty_disk(alloc, fails)?;
     let keeper = empty_keeper(alloc, &[])?;
-    let disk = SureDisk::new(alloc, &FileMap::new(alloc))?;
     let mut source = SureSource::new(alloc, text)?;
     let mut sink = SureSink::new(alloc, &[])?;
-    let ended = run_plain(
-        alloc,
-        disk,
-        keeper,
-        4,
-        &Limits::usual(),
-        &mut source,
-        &mut sink,
-    );
-    Ok(ended.keeper)
+    let limits = Limits::usual();
+    let ended = run_plain(alloc, disk, keeper, size, &limits, &mut source, &mut sink);
+    Ok(Run {
+        status: ended.status,
+        replies: Bytes::of(alloc, sink.bytes())?,
+        disk: ended.disk,
+    })
 }
 
-// The first bytes of the key and of the value, and the number between them.
-fn brief(change: &Change) -> (Option<u8>, u64, Option<u8>) {
-    let value = match &change.act {
-        Act::Put(value) => value.as_slice().first().copied(),
-        Act::Del | Act::Mark => None,
-    };
-    (change.key.as_slice().first().copied(), change.tx, value)
-}
+const ONE_STEP: &[u8] =
+    b"tx 0\nput accounts aa 01\ntx 5\nput accounts bb 02\ncommit\nsettle\nopen\nlatest 1 accounts aa\nlatest 1 accounts bb\n";
 
-#[test]
-fn a_step_has_the_changes_of_its_numbers(rt: HostRuntime) -> Result<(), Fail> {
-    let alloc = rt.alloc();
-    let text =
-        b"tx 1\nput accounts aa 01\nput accounts bb 02\ntx 4\nput accounts aa 03\ntx 5\nput accounts cc 04\ntx 7\nput storage aa 05\nput accounts aa 06\ntx 8\nput accounts bb 07\ncommit\n";
-    let mut keeper = rows_after(alloc, text)?;
-    let Ok(changes) = step_changes(&mut keeper, alloc, Entity::Accounts, 4, 1) else {
-        return Err(Fail::new("no changes"));
-    };
-    let mut seen = Vec::new(alloc);
-    for change in changes.as_slice() {
-        seen.push(brief(change))?;
-    }
-    let wanted = [
-        (Some(0xaa), 4, Some(3)),
-        (Some(0xaa), 7, Some(6)),
-        (Some(0xcc), 5, Some(4)),
-    ];
-    assert_eq!(rt; seen.as_slice(), wanted.as_slice());
-    Ok(())
-}
+const ONE_STEP_REPLIES: &[u8] =
+    b"ok\nok\nok\nok\ncommitted 2 6\nfile v1-accounts.0-1.kv\nend\nopened 1 6\nvalue 01\nvalue 02\n";
 
-const NAME: &[u8] = b"v1-accounts.0-1.kv";
+// The header, then the key and the value, each behind its length.
+const FIRST_FILE: &[u8] =
+    b"AGW1\0\0\0\x01\0\0\0\0\0\0\0\x04\0\0\0\0\0\0\0\0\0\0\0\0\0\0\0\x01\0\0\0\0\0\0\0\x02\0\0\0\x01\xaa\0\0\0\x01\x01";
 
-// How a publish over an older file ends where these calls fail, and what it leaves.
-fn publish_over_old(
+const SECOND_FILE: &[u8] =
+    b"AGW1\0\0\0\x01\0\0\0\0\0\0\0\x04\0\0\0\0\0\0\0\x01\0\0\0\0\0\0\0\x02\0\0\0\0\0\0\0\x02\0\0\0\x01\xbb\0\0\0\x01\x02";
+
+// The disk has exactly the files of these names.
+fn expect_names(
+    rt: &impl Abort,
     alloc: Global,
-    fails: &[u64],
-) -> Result<(Result<(), DiskError>, MemDisk), Memory> {
-    let mut start = FileMap::new(alloc);
-    start.put(alloc, NAME, b"old")?;
-    let mut disk = MemDisk::new(alloc, &start, fails)?;
-    let name = FileName {
-        entity: Entity::Accounts,
-        range: Range { from: 0, to: 1 },
-        kind: FileKind::Kv,
-    };
-    let done = publish(&mut disk, alloc, &name, b"new");
-    Ok((done, disk))
-}
-
-#[test]
-fn a_published_file_has_its_bytes_and_leaves_no_other_name(rt: HostRuntime) -> Result<(), Fail> {
-    let (done, disk) = publish_over_old(rt.alloc(), &[])?;
-    assert_eq!(rt; done, Ok(()));
-    assert_eq!(rt; disk.files().len(), 1);
-    let found = disk.files().find(NAME);
-    assert!(rt; found.is_some_and(|bytes| bytes.as_slice() == b"new".as_slice()));
+    disk: &MemDisk,
+    names: &[&[u8]],
+) -> Result<(), Fail> {
+    let found = disk.files().names(alloc)?;
+    assert_eq!(rt; found.len(), names.len());
+    for (name, wanted) in found.as_slice().iter().zip(names) {
+        assert_eq!(rt; name.as_slice(), *wanted);
+    }
     Ok(())
 }
 
-#[test]
-fn a_publish_that_fails_leaves_the_older_file(rt: HostRuntime) -> Result<(), Fail> {
-    // The write fails, and then the rename, which leaves the temporary name too.
-    for (call, files) in [(1, 1), (2, 2)] {
-        let (done, disk) = publish_over_old(rt.alloc(), &[call])?;
-        assert_eq!(rt; done, Err(DiskError::Failed));
-        assert_eq!(rt; disk.files().len(), files);
-        let found = disk.files().find(NAME);
-        assert!(rt; found.is_some_and(|bytes| bytes.as_slice() == b"old".as_slice()));
+// The file, where the disk has it, has these bytes.
+fn expect_bytes(rt: &impl Abort, disk: &MemDisk, name: &[u8], bytes: &[u8]) {
+    if let Some(file) = disk.files().find(name) {
+        assert_eq!(rt; file.as_slice(), bytes);
     }
+}
+
+#[test]
+fn one_complete_step_is_kept_in_a_file(rt: HostRuntime) -> Result<(), Fail> {
+    let alloc = rt.alloc();
+    let run = run_over(alloc, 4, &[], ONE_STEP)?;
+    assert_eq!(rt; run.status, Status::Done);
+    assert_eq!(rt; run.replies.as_slice(), ONE_STEP_REPLIES);
+    expect_bytes(&rt, &run.disk, b"v1-accounts.0-1.kv", FIRST_FILE);
+    expect_names(&rt, alloc, &run.disk, &[b"v1-accounts.0-1.kv"])
+}
+
+#[test]
+fn a_transaction_keeps_the_files_of_its_opening(rt: HostRuntime) -> Result<(), Fail> {
+    let text =
+        b"tx 0\nput accounts aa 01\ntx 4\nput accounts bb 02\ncommit\nopen\nsettle\ntx 8\nput accounts aa 03\ntx 9\nput accounts bb 04\ncommit\nsettle\nlatest 1 accounts aa\nlatest 1 accounts bb\nopen\nlatest 2 accounts aa\nlatest 2 accounts bb\nlatest 2 accounts cc\n";
+    let replies =
+        b"ok\nok\nok\nok\ncommitted 2 5\nopened 1 5\nfile v1-accounts.0-1.kv\nend\nok\nok\nok\nok\ncommitted 2 10\nfile v1-accounts.0-1.kv\nfile v1-accounts.1-2.kv\nend\nvalue 01\nvalue 02\nopened 2 10\nvalue 03\nvalue 04\nnone\n";
+    let run = run_over(rt.alloc(), 4, &[], text)?;
+    assert_eq!(rt; run.status, Status::Done);
+    assert_eq!(rt; run.replies.as_slice(), replies.as_slice());
+    Ok(())
+}
+
+// Another step that is complete at the end of the input.
+const TWO_STEPS: &[u8] =
+    b"tx 0\nput accounts aa 01\ntx 5\nput accounts bb 02\ncommit\nsettle\ntx 8\nput accounts aa 03\ncommit\n";
+
+const TWO_STEPS_REPLIES: &[u8] =
+    b"ok\nok\nok\nok\ncommitted 2 6\nfile v1-accounts.0-1.kv\nend\nok\nok\ncommitted 1 9\n";
+
+// Of a run over two steps in which this call of the disk fails, as much was written, and the disk has
+// these files.
+fn expect_fault(
+    rt: &impl Abort,
+    alloc: Global,
+    call: u64,
+    written: usize,
+    names: &[&[u8]],
+) -> Result<(), Fail> {
+    let run = run_over(alloc, 4, &[call], TWO_STEPS)?;
+    assert_eq!(rt; run.status, Status::DiskFault);
+    assert_eq!(rt; run.replies.as_slice().len(), written);
+    assert!(rt; TWO_STEPS_REPLIES.starts_with(run.replies.as_slice()));
+    expect_bytes(rt, &run.disk, b"v1-accounts.0-1.kv", FIRST_FILE);
+    expect_names(rt, alloc, &run.disk, names)
+}
+
+#[test]
+fn a_disk_that_fails_leaves_the_files_of_whole_steps(rt: HostRuntime) -> Result<(), Fail> {
+    let alloc = rt.alloc();
+    let settled = 26;
+    let all = TWO_STEPS_REPLIES.len();
+    expect_fault(&rt, alloc, 1, settled, &[])?;
+    expect_fault(&rt, alloc, 2, settled, &[b"v1-accounts.0-1.kv.tmp"])?;
+    expect_fault(&rt, alloc, 3, all, &[b"v1-accounts.0-1.kv"])?;
+    expect_fault(
+        &rt,
+        alloc,
+        4,
+        all,
+        &[b"v1-accounts.0-1.kv", b"v1-accounts.1-2.kv.tmp"],
+    )
+}
+
+#[test]
+fn the_end_of_the_input_settles_too(rt: HostRuntime) -> Result<(), Fail> {
+    let alloc = rt.alloc();
+    let run = run_over(alloc, 4, &[], TWO_STEPS)?;
+    assert_eq!(rt; run.status, Status::Done);
+    assert_eq!(rt; run.replies.as_slice(), TWO_STEPS_REPLIES);
+    expect_bytes(&rt, &run.disk, b"v1-accounts.1-2.kv", SECOND_FILE);
+    expect_names(
+        &rt,
+        alloc,
+        &run.disk,
+        &[b"v1-accounts.0-1.kv", b"v1-accounts.1-2.kv"],
+    )
+}
+
+fn push_number(alloc: Global, text: &mut Vec<u8>, n: u64) -> Result<(), Memory> {
+    let digits = n.to_string(alloc)?;
+    text.extend_from_slice(digits.as_bytes())?;
+    Ok(())
+}
+
+// The `i`th of the transactions, whose numbers go through 40 steps of eight: one put of a key of two
+// digits, and a look at another that may have been put long before.
+fn push_transaction(alloc: Global, text: &mut Vec<u8>, i: u64) -> Result<(), Memory>
+    requires { i < 300 }
+{
+    text.extend_from_slice(b"tx ")?;
+    push_number(alloc, text, i + (i + 1) / 15)?;
+    text.extend_from_slice(b"\nput accounts ")?;
+    push_number(alloc, text, 10 + 7 * i % 83)?;
+    text.extend_from_slice(b" ")?;
+    push_number(alloc, text, 10 + i % 90)?;
+    text.extend_from_slice(b"\ncommit\nopen\nlatest ")?;
+    push_number(alloc, text, i + 1)?;
+    text.extend_from_slice(b" accounts ")?;
+    push_number(alloc, text, 10 + i % 89)?;
+    text.extend_from_slice(b"\nclose ")?;
+    push_number(alloc, text, i + 1)?;
+    text.extend_from_slice(b"\n")?;
+    Ok(())
+}
+
+// All 300 of them.
+fn transactions(alloc: Global, settles: bool) -> Result<Vec<u8>, Memory> {
+    let mut text = Vec::new(alloc);
+    for i in 0..300 {
+        push_transaction(alloc, &mut text, i)?;
+        if settles && i % 50 == 49 {
+            text.extend_from_slice(b"settle\n")?;
+        }
+    }
+    Ok(text)
+}
+
+// The replies without those to `settle`.
+fn without_files(alloc: Global, replies: &[u8]) -> Result<Vec<u8>, Memory> {
+    let mut kept = Vec::new(alloc);
+    for line in replies.split(|byte| *byte == b'\n') {
+        if !line.starts_with(b"file ") && line != b"end".as_slice() && !line.is_empty() {
+            kept.extend_from_slice(line)?;
+            kept.push(b'\n')?;
+        }
+    }
+    Ok(kept)
+}
+
+#[test]
+fn files_and_rows_answer_as_rows_alone(rt: HostRuntime) -> Result<(), Fail> {
+    let alloc = rt.alloc();
+    let settled = transactions(alloc, true)?;
+    let plain = transactions(alloc, false)?;
+    let files = run_over(alloc, 8, &[], settled.as_slice())?;
+    let rows = run_over(alloc, 1_562_500, &[], plain.as_slice())?;
+    assert_eq!(rt; files.status, Status::Done);
+    assert_eq!(rt; files.disk.files().len(), 40);
+    assert_eq!(rt; rows.disk.files().len(), 0);
+    let kept = without_files(alloc, files.replies.as_slice())?;
+    assert_eq!(rt; kept.as_slice(), rows.replies.as_slice());
     Ok(())
 }

@@ -1,20 +1,20 @@
 //! One line of a session: the request that it makes, and the text of its reply.
-ghost use Rattle.std.specs.Prelude.{◌≡◌, ◌+◌, ◌<◌, ◌≤◌, ◌^◌, IfOk, OnErr};
+ghost use Rattle.std.specs.Prelude.{◌≡◌, ◌+◌, ◌<◌, ◌≤◌, ◌^◌, IfOk, OnErr, is_some};
 ghost use Rattle.agg_outside.specs.Counts.{HasCause};
 ghost use Rattle.line_words.specs.Requests.{IsRequest, request_of};
 ghost use Rattle.agg_session.specs.State.{State, outcome};
 ghost use Rattle.agg_session.specs.Answer.{short_step, read_outcome};
 ghost use Rattle.agg_session.specs.Running.{IsSession, Stands, Answers, Steps, EndsAt};
-ghost use Rattle.agg_session.specs.Store.{Holds};
+ghost use Rattle.plain_state.specs.Store.{Keeps};
 
 use crate::limits::Limits;
 use crate::session::Session;
-use crate::stop::Stop;
-use agg_outside::{Bytes, Keeper};
+use agg_outside::{Bytes, Disk, Keeper};
 use line_words::{LineError, Reply, Request};
+use plain_state::Stop;
 use std::alloc::Global;
 
-impl<K: Keeper> Session<K> {
+impl<D: Disk, K: Keeper> Session<D, K> {
     /// Works on a request, and answers its reply; none where it is refused.
     pub fn request(
         &mut self,
@@ -28,9 +28,11 @@ impl<K: Keeper> Session<K> {
         requires fits { IsRequest request }
         ensures sound { IsSession K.held limits.now self.new }
         ensures opens { self.new.link.opens ≤ self.old.link.opens + 1 }
-        ensures exact { (s : State) → Stands K.held self.old s → IfOk result (λ reply. Answers K.held self.new reply (outcome limits.now request s)) }
-        ensures err { (s : State) → Stands K.held self.old s → OnErr result (Holds K.held self.new.store s.list) }
-        ensures cause { HasCause Stop.Keeper (K.faults self.old.store.keeper) (K.faults self.new.store.keeper) result }
+        ensures exact { (s : State) → Stands D.files K.held self.old s → IfOk result (λ reply. Answers D.files K.held self.new reply (outcome limits.now request s)) }
+        ensures err { (s : State) → Stands D.files K.held self.old s → OnErr result (Keeps D.files K.held self.new.store s.list) }
+        ensures keeper_cause { HasCause Stop.Keeper (K.faults self.old.store.keeper) (K.faults self.new.store.keeper) result }
+        ensures disk_cause { HasCause Stop.Disk (D.faults self.old.store.disk) (D.faults self.new.store.disk) result }
+        ensures tells { is_some (D.files self.new.store.disk) ≡ is_some (D.files self.old.store.disk) }
     {
         match request {
             Request::Tx(number) => Ok(self.set_number(number)),
@@ -41,6 +43,7 @@ impl<K: Keeper> Session<K> {
             Request::Latest(number, entity, key) => {
                 self.latest(alloc, number, entity, key.as_slice())
             }
+            Request::Settle => self.settle(alloc),
         }
     }
 
@@ -51,9 +54,11 @@ impl<K: Keeper> Session<K> {
         requires opens { self.old.link.opens < 2 ^ 63 }
         ensures sound { IsSession K.held limits.now self.new }
         ensures opens { self.new.link.opens ≤ self.old.link.opens + 1 }
-        ensures exact { (s : State) → Stands K.held self.old s → IfOk result (λ reply. Answers K.held self.new reply (read_outcome limits.now (request_of line.now) s)) }
-        ensures err { (s : State) → Stands K.held self.old s → OnErr result (Holds K.held self.new.store s.list) }
-        ensures cause { HasCause Stop.Keeper (K.faults self.old.store.keeper) (K.faults self.new.store.keeper) result }
+        ensures exact { (s : State) → Stands D.files K.held self.old s → IfOk result (λ reply. Answers D.files K.held self.new reply (read_outcome limits.now (request_of line.now) s)) }
+        ensures err { (s : State) → Stands D.files K.held self.old s → OnErr result (Keeps D.files K.held self.new.store s.list) }
+        ensures keeper_cause { HasCause Stop.Keeper (K.faults self.old.store.keeper) (K.faults self.new.store.keeper) result }
+        ensures disk_cause { HasCause Stop.Disk (D.faults self.old.store.disk) (D.faults self.new.store.disk) result }
+        ensures tells { is_some (D.files self.new.store.disk) ≡ is_some (D.files self.old.store.disk) }
     {
         match Request::read(alloc, line) {
             Ok(request) => self.request(alloc, limits, request),
@@ -76,9 +81,11 @@ impl<K: Keeper> Session<K> {
         requires opens { self.old.link.opens < 2 ^ 63 }
         ensures sound { IsSession K.held limits.now self.new }
         ensures opens { self.new.link.opens ≤ self.old.link.opens + 1 }
-        ensures exact { (s : State) → Stands K.held self.old s → IfOk result (λ text. Steps K.held self.new text (short_step limits.now number line.now s)) }
-        ensures err { (s : State) → Stands K.held self.old s → OnErr result (EndsAt K.held self.new.store s.list (short_step limits.now number line.now s).state.list) }
-        ensures cause { HasCause Stop.Keeper (K.faults self.old.store.keeper) (K.faults self.new.store.keeper) result }
+        ensures exact { (s : State) → Stands D.files K.held self.old s → IfOk result (λ text. Steps D.files K.held self.new text (short_step limits.now number line.now s)) }
+        ensures err { (s : State) → Stands D.files K.held self.old s → OnErr result (EndsAt D.files K.held self.new.store s.list (short_step limits.now number line.now s).state.list) }
+        ensures keeper_cause { HasCause Stop.Keeper (K.faults self.old.store.keeper) (K.faults self.new.store.keeper) result }
+        ensures disk_cause { HasCause Stop.Disk (D.faults self.old.store.disk) (D.faults self.new.store.disk) result }
+        ensures tells { is_some (D.files self.new.store.disk) ≡ is_some (D.files self.old.store.disk) }
     {
         if line.is_empty() {
             return Ok(Bytes::of(alloc, &[])?);

@@ -3,7 +3,7 @@ ghost use Rattle.std.specs.Prelude.{◌≡◌, ◌+◌, ◌<◌, ◌≤◌, ◌^
 ghost use Rattle.std.specs.Bool.{OnTrue, OnFalse};
 ghost use Rattle.agg_model.specs.Batch.{content_of, value_length};
 ghost use Rattle.agg_session.specs.State.{is_above};
-ghost use Rattle.agg_session.specs.Links.{at_of, others, IsPlaceOf};
+ghost use Rattle.agg_session.specs.Links.{open_of, others, IsPlaceOf};
 
 use crate::limits::Limits;
 use agg_model::{Act, Batch, Change};
@@ -18,6 +18,8 @@ pub struct Transaction {
     pub number: u64,
     /// The next transaction number as it was opened: it reads the changes below.
     pub at: u64,
+    /// How many files there were as it was opened: it reads these, and rows from their end on.
+    pub files: usize,
 }
 
 /// What a link keeps between two lines.
@@ -91,14 +93,14 @@ impl Link {
         Ok(true)
     }
 
-    /// Opens a transaction that reads the changes below `next`, and answers its number; none where
-    /// as many are open as may be.
-    pub fn begin(&mut self, next: u64, limits: &Limits) -> Result<Option<u64>, Memory>
+    /// Opens a transaction that reads the changes below `next`, and the first `files` files; answers
+    /// its number, or none where as many are open as may be.
+    pub fn begin(&mut self, next: u64, files: usize, limits: &Limits) -> Result<Option<u64>, Memory>
         requires { self.old.opens < 2 ^ 63 }
         ensures could { IfOk result (λ number. is_some number ≡ nat_lt (length self.old.transactions) limits.now.opens) }
         ensures begun { IfOk result (λ number. IfSome number (λ n. (n ≡ self.old.opens + 1) × (self.new ≡ record self.old {
           opens = self.old.opens + 1;
-          transactions = self.old.transactions ++ record { number = n; at = next } ∷ [];
+          transactions = self.old.transactions ++ record { number = n; at = next; files = files } ∷ [];
         }))) }
         ensures unchanged { IfOk result (λ number. IfNone number (self.new ≡ self.old)) }
         ensures err { OnErr result (self.new ≡ self.old) }
@@ -107,22 +109,26 @@ impl Link {
             return Ok(None);
         }
         let number = self.opens + 1;
-        self.transactions.push(Transaction { number, at: next })?;
+        self.transactions.push(Transaction {
+            number,
+            at: next,
+            files,
+        })?;
         self.opens = number;
         Ok(Some(number))
     }
 
-    /// Below which number an open transaction reads; none where it isn't open.
-    pub fn at(&self, number: u64) -> Option<u64>
-        ensures { result ≡ at_of number self.entry.now.transactions }
+    /// The transaction of this number; none where it isn't open.
+    pub fn transaction(&self, number: u64) -> Option<Transaction>
+        ensures { result ≡ open_of number self.entry.now.transactions }
     {
         let i = place_of(self.transactions.as_slice(), number)?;
-        Some(self.transactions.as_slice()[i].at)
+        Some(self.transactions.as_slice()[i])
     }
 
     /// Closes a transaction, and answers whether it was open.
     pub fn end(&mut self, number: u64) -> bool
-        ensures could { result ≡ is_some (at_of number self.old.transactions) }
+        ensures could { result ≡ is_some (open_of number self.old.transactions) }
         ensures ended { OnTrue result (self.new ≡ record self.old { transactions = others number self.old.transactions }) }
         ensures unchanged { OnFalse result (self.new ≡ self.old) }
     {
@@ -160,7 +166,7 @@ fn content_of_change(change: &Change) -> u64
 
 // The place of the open transaction of this number.
 fn place_of(transactions: &[Transaction], number: u64) -> Option<usize>
-    ensures { MatchOption result (at_of number transactions.now ≡ None) (λ i. IsPlaceOf number transactions.now i) }
+    ensures { MatchOption result (open_of number transactions.now ≡ None) (λ i. IsPlaceOf number transactions.now i) }
 {
     for (i, transaction) in transactions.iter().enumerate() {
         if transaction.number == number {

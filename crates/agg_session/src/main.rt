@@ -2,7 +2,6 @@
 //! standard input and output.
 #![tactic(auto)]
 
-mod collating;
 #[cfg(test)]
 mod ending_tests;
 mod ends;
@@ -11,14 +10,11 @@ mod file_tests;
 mod limits;
 mod line;
 mod link;
-mod publishing;
 mod run;
 mod served;
 mod serving;
 mod session;
 mod status;
-mod stop;
-mod store;
 mod taking;
 #[cfg(test)]
 mod tests;
@@ -26,12 +22,10 @@ mod tests;
 mod word_tests;
 
 use agg_outside::{FileMap, KeeperStart, Keys, Memory, NoGate, Rowlist};
-pub use collating::step_changes;
 pub use ends::LinkEnd;
 pub use limits::Limits;
 pub use link::{Link, Transaction};
 use memory_side::{SureDisk, SureDoors, SureKeeper};
-pub use publishing::publish;
 use real_side::{StdSink, StdSource};
 pub use run::{Ended, aggregate, run_plain};
 pub use served::Served;
@@ -43,8 +37,6 @@ use std::process::ExitCode;
 use std::rt::{Clock, Env};
 use std::sync::Wait;
 use std::thread::Threads;
-pub use stop::Stop;
-pub use store::{Accepted, Store};
 pub use taking::serve;
 
 // Runs the command of the words over an empty disk and an empty keeper in memory.

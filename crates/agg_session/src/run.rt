@@ -1,11 +1,13 @@
 //! The top call: reads the words, and runs a session over what it is handed.
-ghost use Rattle.std.specs.Prelude.{◌≡◌, ◌⊎◌, ◌≤◌, ◌^◌, ◌↔◌, map, None};
+ghost use Rattle.std.specs.Prelude.{◌≡◌, ◌⊎◌, ℕ, ◌≤◌, ◌^◌, ◌↔◌, map, None, is_some};
 ghost use Rattle.std.specs.Option.{ForSome};
 ghost use Rattle.std.specs.String.{string_bytes};
 ghost use Rattle.std.specs.FinMap as files;
 ghost use Rattle.agg_outside.specs.Counts.{Rose};
+ghost use Rattle.agg_model.specs.ChangeList.{ChangeList};
+ghost use Rattle.plain_state.specs.Store.{IsStore, Holds, Keeps};
 ghost use Rattle.agg_session.specs.Served.{EndsLong};
-ghost use Rattle.agg_session.specs.Top.{usual, empty_list, empty_held, status_of, IsShort, EndsWhole, EndsBetween, EndsWithin, IsBetween, IsCutShort};
+ghost use Rattle.agg_session.specs.Top.{usual, empty_list, empty_held, status_of, IsShort, IsSettled, EndsWhole, EndsBetween, EndsWithin, IsBetween, IsCutShort};
 ghost use Rattle.command_words.specs.CommandWords.{step_size_of};
 
 use crate::ends::LinkEnd;
@@ -14,11 +16,11 @@ use crate::link::Link;
 use crate::served::Served;
 use crate::session::Session;
 use crate::status::Status;
-use crate::store::Store;
 use crate::taking::serve;
 use agg_outside::{Disk, Doors, Gate, Keeper, Sink, Source};
 use command_words::step_size_of;
 use line_words::LineCut;
+use plain_state::Store;
 use std::alloc::Global;
 use std::rt::Clock;
 use std::sync::Wait;
@@ -39,9 +41,38 @@ fn status_of(end: LinkEnd) -> Status
         LinkEnd::Done => Status::Done,
         LinkEnd::Source => Status::SourceFault,
         LinkEnd::Sink => Status::SinkFault,
+        LinkEnd::Disk => Status::DiskFault,
         LinkEnd::Keeper => Status::KeeperFault,
         LinkEnd::Long => Status::Long,
         LinkEnd::Memory => Status::Memory,
+    }
+}
+
+// Once the source was read to its end, all complete steps are put in files. Another end stays as it is.
+fn settle_at_end<D: Disk, K: Keeper>(
+    alloc: Global,
+    end: LinkEnd,
+    store: &mut Store<D, K>,
+) -> LinkEnd
+    requires sound { end ≡ LinkEnd.Done → (most : ℕ) × IsStore K.held most store.old }
+    ensures settled { result ≡ LinkEnd.Done → (end ≡ LinkEnd.Done) × ((list : ChangeList) → Holds D.files K.held store.old list → IsSettled D.files K.held store.new list) }
+    ensures cut { end ≡ LinkEnd.Done → (list : ChangeList) → Holds D.files K.held store.old list → Keeps D.files K.held store.new list }
+    ensures other { (end ≡ LinkEnd.Done → ⊥) → (result ≡ end) × (store.new ≡ store.old) }
+    ensures source { result ≡ LinkEnd.Source → end ≡ LinkEnd.Source }
+    ensures sink { result ≡ LinkEnd.Sink → end ≡ LinkEnd.Sink }
+    ensures long { result ≡ LinkEnd.Long → end ≡ LinkEnd.Long }
+    ensures tells { is_some (D.files store.new.disk) ≡ is_some (D.files store.old.disk) }
+    ensures disk_stays { D.faults store.old.disk ≤ D.faults store.new.disk }
+    ensures disk { result ≡ LinkEnd.Disk → (end ≡ LinkEnd.Disk) ⊎ Rose (D.faults store.old.disk) (D.faults store.new.disk) }
+    ensures keeper_stays { K.faults store.old.keeper ≤ K.faults store.new.keeper }
+    ensures keeper { result ≡ LinkEnd.Keeper → (end ≡ LinkEnd.Keeper) ⊎ Rose (K.faults store.old.keeper) (K.faults store.new.keeper) }
+{
+    if end != LinkEnd::Done {
+        return end;
+    }
+    match store.settle(alloc) {
+        Ok(()) => LinkEnd::Done,
+        Err(stop) => LinkEnd::from(stop),
     }
 }
 
@@ -59,40 +90,39 @@ pub fn run_plain<D: Disk, K: Keeper, I: Source, O: Sink>(
     requires size_within { size ≤ 2 ^ 32 }
     requires limit { limits.now.content ≤ 2 ^ 28 }
     requires bytes { limits.now.bytes ≤ 2 ^ 40 }
+    requires no_files { ForSome (D.files disk) (λ f. f ≡ files.empty) }
     requires no_rows { ForSome (K.held keeper) (λ h. h ≡ empty_held) }
     ensures done { result.status ≡ Status.Done → ForSome (K.held keeper) (λ _.
-        EndsWhole limits.now (empty_list size) (I.left source.old) (I.left source.new) (O.bytes sink.old) (O.bytes sink.new) (K.held result.keeper)) }
+        EndsWhole limits.now (empty_list size) (I.left source.old) (I.left source.new) (O.bytes sink.old) (O.bytes sink.new) (K.held result.keeper) (D.files result.disk)) }
     ensures between { IsBetween result.status → ForSome (K.held keeper) (λ _.
-        EndsBetween limits.now (empty_list size) (I.left source.old) (I.left source.new) (O.bytes sink.old) (O.bytes sink.new) (K.held result.keeper)) }
+        EndsBetween limits.now (empty_list size) (I.left source.old) (I.left source.new) (O.bytes sink.old) (O.bytes sink.new) (K.held result.keeper) (D.files result.disk)) }
     ensures within { IsCutShort result.status → ForSome (K.held keeper) (λ _.
-        EndsWithin limits.now (empty_list size) (I.left source.old) (I.left source.new) (O.bytes sink.old) (O.bytes sink.new) (K.held result.keeper)) }
+        EndsWithin limits.now (empty_list size) (I.left source.old) (I.left source.new) (O.bytes sink.old) (O.bytes sink.new) (K.held result.keeper) (D.files result.disk)) }
+    ensures tells { is_some (D.files result.disk) ≡ is_some (D.files disk) }
     ensures source { result.status ≡ Status.SourceFault → Rose (I.faults source.old) (I.faults source.new) }
     ensures sink { result.status ≡ Status.SinkFault → Rose (O.faults sink.old) (O.faults sink.new) }
+    ensures disk { result.status ≡ Status.DiskFault → Rose (D.faults disk) (D.faults result.disk) }
     ensures keeper { result.status ≡ Status.KeeperFault → Rose (K.faults keeper) (K.faults result.keeper) }
     ensures long { result.status ≡ Status.Long → ForSome (I.left source.old) (λ input. EndsLong limits.now.bytes input (I.left source.new)) }
     ensures usage { result.status ≡ Status.Usage → ⊥ }
-    ensures disk { result.disk ≡ disk }
 {
     let mut served = Served {
         cut: LineCut::new(alloc, limits.line),
         session: Session {
-            store: Store {
-                keeper,
-                next: 0,
-                content: 0,
-                size,
-            },
+            store: Store::new(alloc, disk, keeper, size),
             link: Link::new(alloc),
         },
         lines: 0,
     };
     let end = serve(alloc, limits, &mut served, source, sink);
     let Served { session, .. } = served;
-    let Session { store, .. } = session;
+    let Session { mut store, .. } = session;
+    let end = settle_at_end(alloc, end, &mut store);
+    let Store { disk, keeper, .. } = store;
     Ended {
         status: status_of(end),
         disk,
-        keeper: store.keeper,
+        keeper,
     }
 }
 
@@ -121,27 +151,30 @@ pub fn aggregate<
     requires no_files { ForSome (D.files disk) (λ f. f ≡ files.empty) }
     requires no_rows { ForSome (K.held keeper) (λ h. h ≡ empty_held) }
 
-    // The replies are those of the plain change list, and its rows are kept.
+    // The replies are those of the plain change list, its rows are kept, and its files stand.
     ensures done { result.status ≡ Status.Done → ForSome (K.held keeper) (λ _. ForSome (step_size_of (map string_bytes words.now)) (λ size.
-        EndsWhole usual (empty_list size) (I.left source.old) (I.left source.new) (O.bytes sink.old) (O.bytes sink.new) (K.held result.keeper))) }
+        EndsWhole usual (empty_list size) (I.left source.old) (I.left source.new) (O.bytes sink.old) (O.bytes sink.new) (K.held result.keeper) (D.files result.disk))) }
     ensures between { IsBetween result.status → ForSome (K.held keeper) (λ _. ForSome (step_size_of (map string_bytes words.now)) (λ size.
-        EndsBetween usual (empty_list size) (I.left source.old) (I.left source.new) (O.bytes sink.old) (O.bytes sink.new) (K.held result.keeper))) }
+        EndsBetween usual (empty_list size) (I.left source.old) (I.left source.new) (O.bytes sink.old) (O.bytes sink.new) (K.held result.keeper) (D.files result.disk))) }
     ensures within { IsCutShort result.status → ForSome (K.held keeper) (λ _. ForSome (step_size_of (map string_bytes words.now)) (λ size.
-        EndsWithin usual (empty_list size) (I.left source.old) (I.left source.new) (O.bytes sink.old) (O.bytes sink.new) (K.held result.keeper))) }
+        EndsWithin usual (empty_list size) (I.left source.old) (I.left source.new) (O.bytes sink.old) (O.bytes sink.new) (K.held result.keeper) (D.files result.disk))) }
     ensures usage { result.status ≡ Status.Usage ↔ (step_size_of (map string_bytes words.now) ≡ None) }
-    ensures usage_untouched { result.status ≡ Status.Usage → (I.left source.new ≡ I.left source.old) × (O.bytes sink.new ≡ O.bytes sink.old) × (result.keeper ≡ keeper) }
+    ensures usage_untouched { result.status ≡ Status.Usage → (I.left source.new ≡ I.left source.old) × (O.bytes sink.new ≡ O.bytes sink.old) × (result.disk ≡ disk) × (result.keeper ≡ keeper) }
+
+    // A disk that tells what it holds goes on telling it.
+    ensures tells { is_some (D.files result.disk) ≡ is_some (D.files disk) }
 
     // A run that nothing ends early is done, or memory could not be had.
     ensures complete { (step_size_of (map string_bytes words.now) ≡ None → ⊥) → (Rose (I.faults source.old) (I.faults source.new) → ⊥)
-        → (Rose (O.faults sink.old) (O.faults sink.new) → ⊥) → (Rose (K.faults keeper) (K.faults result.keeper) → ⊥)
+        → (Rose (O.faults sink.old) (O.faults sink.new) → ⊥) → (Rose (D.faults disk) (D.faults result.disk) → ⊥) → (Rose (K.faults keeper) (K.faults result.keeper) → ⊥)
         → IsShort usual.bytes (I.left source.old) (I.left source.new) → (result.status ≡ Status.Done) ⊎ (result.status ≡ Status.Memory) }
 
     // A device is blamed only where its count of faults rose.
     ensures source { result.status ≡ Status.SourceFault → Rose (I.faults source.old) (I.faults source.new) }
     ensures sink { result.status ≡ Status.SinkFault → Rose (O.faults sink.old) (O.faults sink.new) }
+    ensures disk { result.status ≡ Status.DiskFault → Rose (D.faults disk) (D.faults result.disk) }
     ensures keeper { result.status ≡ Status.KeeperFault → Rose (K.faults keeper) (K.faults result.keeper) }
     ensures long { result.status ≡ Status.Long → ForSome (I.left source.old) (λ input. EndsLong usual.bytes input (I.left source.new)) }
-    ensures disk { result.disk ≡ disk }
     ensures doors { doors.new ≡ doors.old }
 {
     let Some(size) = step_size_of(words) else {

@@ -11,9 +11,9 @@ ghost use Rattle.agg_session.specs.Running.{IsSession, Stands, Steps, EndsAt};
 use crate::ends::LinkEnd;
 use crate::limits::Limits;
 use crate::session::Session;
-use crate::stop::Stop;
-use agg_outside::{Bytes, Keeper, Sink, SinkError};
+use agg_outside::{Bytes, Disk, Keeper, Sink, SinkError};
 use line_words::{Cutting, LineCut, Reply};
+use plain_state::Stop;
 use std::alloc::Global;
 
 /// Writes all of `text`. After an error a first part of it may be written.
@@ -32,12 +32,12 @@ pub fn put_all<O: Sink>(sink: &mut O, text: &[u8]) -> Result<(), SinkError>
 // Cuts off the next line that has its line feed, and answers the text of its reply; none where no
 // further line end has come.
 #[tactic(auto, unfolding(crate::specs::Answer::step))]
-pub(crate) fn next_reply<K: Keeper>(
+pub(crate) fn next_reply<D: Disk, K: Keeper>(
     alloc: Global,
     limits: &Limits,
     number: u64,
     cut: &mut LineCut,
-    session: &mut Session<K>,
+    session: &mut Session<D, K>,
 ) -> Result<Option<Bytes>, Stop>
     requires limit { limits.now.content ≤ 2 ^ 28 }
     requires sound { IsSession K.held limits.now session.old }
@@ -47,10 +47,12 @@ pub(crate) fn next_reply<K: Keeper>(
     ensures cut { cut.new ≡ record cut.old { left = (next_cut cut.old).1 } }
     ensures found { IfOk result (λ text. is_some text ≡ is_some (next_cut cut.old).0) }
     ensures none { IfOk result (λ text. IfNone text (session.new ≡ session.old)) }
-    ensures exact { (s : State) → Stands K.held session.old s → IfOk result (λ text. IfSome text (λ t. IfSome (next_cut cut.old).0 (λ piece. Steps K.held session.new t (step limits.now number piece s)))) }
+    ensures exact { (s : State) → Stands D.files K.held session.old s → IfOk result (λ text. IfSome text (λ t. IfSome (next_cut cut.old).0 (λ piece. Steps D.files K.held session.new t (step limits.now number piece s)))) }
     ensures err_found { OnErr result (true ≡ is_some (next_cut cut.old).0) }
-    ensures err { (s : State) → Stands K.held session.old s → OnErr result (IfSome (next_cut cut.old).0 (λ piece. EndsAt K.held session.new.store s.list (step limits.now number piece s).state.list)) }
-    ensures cause { HasCause Stop.Keeper (K.faults session.old.store.keeper) (K.faults session.new.store.keeper) result }
+    ensures err { (s : State) → Stands D.files K.held session.old s → OnErr result (IfSome (next_cut cut.old).0 (λ piece. EndsAt D.files K.held session.new.store s.list (step limits.now number piece s).state.list)) }
+    ensures keeper_cause { HasCause Stop.Keeper (K.faults session.old.store.keeper) (K.faults session.new.store.keeper) result }
+    ensures disk_cause { HasCause Stop.Disk (D.faults session.old.store.disk) (D.faults session.new.store.disk) result }
+    ensures tells { is_some (D.files session.new.store.disk) ≡ is_some (D.files session.old.store.disk) }
 {
     match cut.next() {
         Cutting::Line(line) => Ok(Some(session.line(alloc, limits, number, line)?)),
@@ -61,12 +63,12 @@ pub(crate) fn next_reply<K: Keeper>(
 
 // The same of the last line, which has no line feed.
 #[tactic(auto, unfolding(crate::specs::Answer::step))]
-pub(crate) fn last_reply<K: Keeper>(
+pub(crate) fn last_reply<D: Disk, K: Keeper>(
     alloc: Global,
     limits: &Limits,
     number: u64,
     cut: &mut LineCut,
-    session: &mut Session<K>,
+    session: &mut Session<D, K>,
 ) -> Result<Option<Bytes>, Stop>
     requires limit { limits.now.content ≤ 2 ^ 28 }
     requires sound { IsSession K.held limits.now session.old }
@@ -76,10 +78,12 @@ pub(crate) fn last_reply<K: Keeper>(
     ensures cut { cut.new ≡ record cut.old { left = [] } }
     ensures found { IfOk result (λ text. is_some text ≡ is_some (rest_cut cut.old)) }
     ensures none { IfOk result (λ text. IfNone text (session.new ≡ session.old)) }
-    ensures exact { (s : State) → Stands K.held session.old s → IfOk result (λ text. IfSome text (λ t. IfSome (rest_cut cut.old) (λ piece. Steps K.held session.new t (step limits.now number piece s)))) }
+    ensures exact { (s : State) → Stands D.files K.held session.old s → IfOk result (λ text. IfSome text (λ t. IfSome (rest_cut cut.old) (λ piece. Steps D.files K.held session.new t (step limits.now number piece s)))) }
     ensures err_found { OnErr result (true ≡ is_some (rest_cut cut.old)) }
-    ensures err { (s : State) → Stands K.held session.old s → OnErr result (IfSome (rest_cut cut.old) (λ piece. EndsAt K.held session.new.store s.list (step limits.now number piece s).state.list)) }
-    ensures cause { HasCause Stop.Keeper (K.faults session.old.store.keeper) (K.faults session.new.store.keeper) result }
+    ensures err { (s : State) → Stands D.files K.held session.old s → OnErr result (IfSome (rest_cut cut.old) (λ piece. EndsAt D.files K.held session.new.store s.list (step limits.now number piece s).state.list)) }
+    ensures keeper_cause { HasCause Stop.Keeper (K.faults session.old.store.keeper) (K.faults session.new.store.keeper) result }
+    ensures disk_cause { HasCause Stop.Disk (D.faults session.old.store.disk) (D.faults session.new.store.disk) result }
+    ensures tells { is_some (D.files session.new.store.disk) ≡ is_some (D.files session.old.store.disk) }
 {
     match cut.rest() {
         Cutting::Line(line) => Ok(Some(session.line(alloc, limits, number, line)?)),

@@ -1,20 +1,20 @@
 //! A session between two lines, and what each request makes of it.
-ghost use Rattle.std.specs.Prelude.{◌≡◌, ℕ, ◌+◌, ◌<◌, ◌≤◌, ◌^◌, IfOk, OnErr, IsTrue};
+ghost use Rattle.std.specs.Prelude.{◌≡◌, ℕ, ◌+◌, ◌<◌, ◌≤◌, ◌^◌, length, All, IfOk, OnErr, IsTrue, is_some};
 ghost use Rattle.agg_outside.specs.Counts.{HasCause};
 ghost use Rattle.agg_model.specs.Batch.{IsKey, IsValue};
 ghost use Rattle.agg_model.specs.Entity.{is_domain_entity};
 ghost use Rattle.agg_session.specs.declared.limits.Limits.{Limits as TheLimits};
-ghost use Rattle.agg_session.specs.State.{State, number_on, put_on, commit_on, open_on, close_on, latest_on, list_at};
+ghost use Rattle.agg_session.specs.State.{State, number_on, put_on, commit_on, open_on, close_on, latest_on, settle_on, list_at};
+ghost use Rattle.agg_session.specs.Links.{HasFiles};
 ghost use Rattle.agg_session.specs.Running.{IsSession, Stands, Answers};
-ghost use Rattle.agg_session.specs.Store.{Holds};
+ghost use Rattle.plain_state.specs.Store.{Keeps};
 
 use crate::limits::Limits;
 use crate::link::Link;
-use crate::stop::Stop;
-use crate::store::Store;
 use agg_model::{Act, Change, Entity};
-use agg_outside::{Bytes, Keeper, Memory};
+use agg_outside::{Bytes, Disk, Keeper, Memory};
 use line_words::Reply;
+use plain_state::{Stop, Store};
 use std::alloc::Global;
 
 /// How many steps there are at most.
@@ -22,18 +22,18 @@ const STEPS: u64 = 4096;
 
 /// The accepted changes, and what the link keeps beside them.
 #[derive(Drop)]
-pub struct Session<K: Keeper> {
-    pub store: Store<K>,
+pub struct Session<D: Disk, K: Keeper> {
+    pub store: Store<D, K>,
     pub link: Link,
 }
 
-impl<K: Keeper> Session<K> {
+impl<D: Disk, K: Keeper> Session<D, K> {
     // `tx N`
     pub(crate) fn set_number(&mut self, number: u64) -> Option<Reply>
         requires { self.old.store.size ≤ 2 ^ 32 }
         ensures sound { (limits : TheLimits) → IsSession K.held limits self.old → IsSession K.held limits self.new }
         ensures opens { self.new.link.opens ≤ self.old.link.opens + 1 }
-        ensures exact { (s : State) → Stands K.held self.old s → Answers K.held self.new result (number_on number s) }
+        ensures exact { (s : State) → Stands D.files K.held self.old s → Answers D.files K.held self.new result (number_on number s) }
         ensures store { self.new.store ≡ self.old.store }
     {
         if self.link.set_number(number, STEPS * self.store.size) {
@@ -58,7 +58,7 @@ impl<K: Keeper> Session<K> {
         requires value { IsValue value }
         ensures sound { IsSession K.held limits.now self.old → IsSession K.held limits.now self.new }
         ensures opens { self.new.link.opens ≤ self.old.link.opens + 1 }
-        ensures exact { (s : State) → Stands K.held self.old s → IfOk result (λ reply. Answers K.held self.new reply (put_on limits.now s.now entity key value s)) }
+        ensures exact { (s : State) → Stands D.files K.held self.old s → IfOk result (λ reply. Answers D.files K.held self.new reply (put_on limits.now s.now entity key value s)) }
         ensures store { self.new.store ≡ self.old.store }
     {
         let Some(tx) = self.link.now else {
@@ -83,12 +83,14 @@ impl<K: Keeper> Session<K> {
         requires sound { IsSession K.held limits.now self.old }
         ensures sound { IsSession K.held limits.now self.old → IsSession K.held limits.now self.new }
         ensures opens { self.new.link.opens ≤ self.old.link.opens + 1 }
-        ensures exact { (s : State) → Stands K.held self.old s → IfOk result (λ reply. Answers K.held self.new reply (commit_on limits.now s)) }
-        ensures err { (s : State) → Stands K.held self.old s → OnErr result (Holds K.held self.new.store s.list) }
-        ensures cause { HasCause Stop.Keeper (K.faults self.old.store.keeper) (K.faults self.new.store.keeper) result }
+        ensures exact { (s : State) → Stands D.files K.held self.old s → IfOk result (λ reply. Answers D.files K.held self.new reply (commit_on limits.now s)) }
+        ensures err { (s : State) → Stands D.files K.held self.old s → OnErr result (Keeps D.files K.held self.new.store s.list) }
+        ensures keeper_cause { HasCause Stop.Keeper (K.faults self.old.store.keeper) (K.faults self.new.store.keeper) result }
+        ensures disk_cause { HasCause Stop.Disk (D.faults self.old.store.disk) (D.faults self.new.store.disk) result }
+        ensures tells { is_some (D.files self.new.store.disk) ≡ is_some (D.files self.old.store.disk) }
     {
         let pending = self.link.clear(alloc);
-        let Some(accepted) = self.store.accept(alloc, limits, pending)? else {
+        let Some(accepted) = self.store.accept(alloc, limits.content, pending)? else {
             return Ok(None);
         };
         Ok(Some(Reply::Committed(accepted.changes, accepted.next)))
@@ -99,11 +101,12 @@ impl<K: Keeper> Session<K> {
         requires { self.old.link.opens < 2 ^ 63 }
         ensures sound { IsSession K.held limits.now self.old → IsSession K.held limits.now self.new }
         ensures opens { self.new.link.opens ≤ self.old.link.opens + 1 }
-        ensures exact { (s : State) → Stands K.held self.old s → IfOk result (λ reply. Answers K.held self.new reply (open_on limits.now s)) }
+        ensures exact { (s : State) → Stands D.files K.held self.old s → IfOk result (λ reply. Answers D.files K.held self.new reply (open_on limits.now s)) }
         ensures store { self.new.store ≡ self.old.store }
     {
         let next = self.store.next;
-        let Some(number) = self.link.begin(next, limits)? else {
+        let files = self.store.files.len();
+        let Some(number) = self.link.begin(next, files, limits)? else {
             return Ok(None);
         };
         Ok(Some(Reply::Opened(number, next)))
@@ -113,7 +116,7 @@ impl<K: Keeper> Session<K> {
     pub(crate) fn end(&mut self, number: u64) -> Option<Reply>
         ensures sound { (limits : TheLimits) → IsSession K.held limits self.old → IsSession K.held limits self.new }
         ensures opens { self.new.link.opens ≤ self.old.link.opens + 1 }
-        ensures exact { (s : State) → Stands K.held self.old s → Answers K.held self.new result (close_on number (list_at number s.transactions) s) }
+        ensures exact { (s : State) → Stands D.files K.held self.old s → Answers D.files K.held self.new result (close_on number (list_at number s.transactions) s) }
         ensures store { self.new.store ≡ self.old.store }
     {
         if self.link.end(number) {
@@ -131,18 +134,39 @@ impl<K: Keeper> Session<K> {
         entity: Entity,
         key: &[u8],
     ) -> Result<Option<Reply>, Stop>
+        requires files { All (HasFiles (length self.old.store.files) self.old.store.size) self.old.link.transactions }
         ensures sound { (limits : TheLimits) → IsSession K.held limits self.old → IsSession K.held limits self.new }
         ensures opens { self.new.link.opens ≤ self.old.link.opens + 1 }
-        ensures exact { (s : State) → Stands K.held self.old s → IfOk result (λ reply. Answers K.held self.new reply (latest_on (list_at number s.transactions) entity key.now s)) }
-        ensures err { (s : State) → Stands K.held self.old s → OnErr result (Holds K.held self.new.store s.list) }
-        ensures cause { HasCause Stop.Keeper (K.faults self.old.store.keeper) (K.faults self.new.store.keeper) result }
+        ensures exact { (s : State) → Stands D.files K.held self.old s → IfOk result (λ reply. Answers D.files K.held self.new reply (latest_on (list_at number s.transactions) entity key.now s)) }
+        ensures err { (s : State) → Stands D.files K.held self.old s → OnErr result (Keeps D.files K.held self.new.store s.list) }
+        ensures keeper_cause { HasCause Stop.Keeper (K.faults self.old.store.keeper) (K.faults self.new.store.keeper) result }
+        ensures disk_cause { HasCause Stop.Disk (D.faults self.old.store.disk) (D.faults self.new.store.disk) result }
+        ensures tells { is_some (D.files self.new.store.disk) ≡ is_some (D.files self.old.store.disk) }
     {
-        let Some(at) = self.link.at(number) else {
+        let Some(opened) = self.link.transaction(number) else {
             return Ok(None);
         };
-        match self.store.value_before(alloc, at, entity, key)? {
+        match self
+            .store
+            .value_before(alloc, opened.files, opened.at, entity, key)?
+        {
             Some(value) => Ok(Some(Reply::Value(value))),
             None => Ok(Some(Reply::NoValue)),
         }
+    }
+
+    // `settle`
+    pub(crate) fn settle(&mut self, alloc: Global) -> Result<Option<Reply>, Stop>
+        requires sound { (limits : TheLimits) × IsSession K.held limits self.old }
+        ensures sound { (limits : TheLimits) → IsSession K.held limits self.old → IsSession K.held limits self.new }
+        ensures opens { self.new.link.opens ≤ self.old.link.opens + 1 }
+        ensures exact { (s : State) → Stands D.files K.held self.old s → IfOk result (λ reply. Answers D.files K.held self.new reply (settle_on s)) }
+        ensures err { (s : State) → Stands D.files K.held self.old s → OnErr result (Keeps D.files K.held self.new.store s.list) }
+        ensures keeper_cause { HasCause Stop.Keeper (K.faults self.old.store.keeper) (K.faults self.new.store.keeper) result }
+        ensures disk_cause { HasCause Stop.Disk (D.faults self.old.store.disk) (D.faults self.new.store.disk) result }
+        ensures tells { is_some (D.files self.new.store.disk) ≡ is_some (D.files self.old.store.disk) }
+    {
+        self.store.settle(alloc)?;
+        Ok(Some(Reply::Files(self.store.names(alloc)?)))
     }
 }

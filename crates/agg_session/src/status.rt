@@ -1,7 +1,7 @@
 /// How the program ends.
 #[derive(Clone, Copy, Debug, PartialEq, Eq)]
 pub enum Status {
-    /// The input was read to its end, and every line was answered.
+    /// The input was read to its end, every line was answered, and all complete steps are in files.
     Done,
     /// The words are none of the program's commands.
     Usage,
@@ -9,6 +9,8 @@ pub enum Status {
     SourceFault,
     /// The sink counted a fault.
     SinkFault,
+    /// The disk counted a fault.
+    DiskFault,
     /// The keeper counted a fault.
     KeeperFault,
     /// Memory could not be had.
@@ -25,6 +27,7 @@ impl Status {
             Status::Usage => 1,
             Status::SourceFault => 3,
             Status::SinkFault => 4,
+            Status::DiskFault => 5,
             Status::KeeperFault => 6,
             Status::Memory => 7,
             Status::Long => 9,
@@ -38,6 +41,7 @@ impl Status {
             Status::Usage => Some("aggregator: usage"),
             Status::SourceFault => Some("aggregator: source fault"),
             Status::SinkFault => Some("aggregator: sink fault"),
+            Status::DiskFault => Some("aggregator: disk fault"),
             Status::KeeperFault => Some("aggregator: keeper fault"),
             Status::Memory => Some("aggregator: out of memory"),
             Status::Long => Some("aggregator: input too long"),

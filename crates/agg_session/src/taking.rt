@@ -1,14 +1,15 @@
 //! A session over a source and a sink: takes bytes, and answers each line before it takes more.
-ghost use Rattle.std.specs.Prelude.{◌≡◌, ◌⊎◌, ◌<◌, ◌≤◌, ◌^◌, ◌+◌, length, None, IfOk, OnOk, OnErr, IfErr, IsErrOf, MatchResult};
+ghost use Rattle.std.specs.Prelude.{◌≡◌, ◌⊎◌, ◌<◌, ◌≤◌, ◌^◌, ◌+◌, length, None, IfOk, OnOk, OnErr, IfErr, IsErrOf, MatchResult, is_some};
 ghost use Rattle.std.specs.Option.{ForSome};
 ghost use Rattle.agg_outside.specs.Counts.{Rose};
 ghost use Rattle.line_words.specs.LineCut.{next_cut};
+ghost use Rattle.agg_session.specs.Running.{IsSession};
 ghost use Rattle.agg_session.specs.Served.{IsServed, IsTaken, IsAtEnd, Takes, TakesPart, ServesAll, ServesEnded, ServesPart, EndsLong};
 
 use crate::ends::LinkEnd;
 use crate::limits::Limits;
 use crate::served::Served;
-use agg_outside::{Keeper, Sink, Source};
+use agg_outside::{Disk, Keeper, Sink, Source};
 use std::alloc::Global;
 
 /// How many bytes are asked for at a time.
@@ -33,11 +34,11 @@ fn take_piece<'a, I: Source>(source: &mut I, buffer: &'a mut [u8]) -> Result<&'a
 
 // Takes at most `room` bytes and answers the lines that they end. Answers how many bytes came: none
 // at the end of the source.
-fn take_some<K: Keeper, I: Source, O: Sink>(
+fn take_some<D: Disk, K: Keeper, I: Source, O: Sink>(
     alloc: Global,
     limits: &Limits,
     room: usize,
-    served: &mut Served<K>,
+    served: &mut Served<D, K>,
     source: &mut I,
     sink: &mut O,
 ) -> Result<usize, LinkEnd>
@@ -51,13 +52,16 @@ fn take_some<K: Keeper, I: Source, O: Sink>(
     ensures sound { OnOk result (IsServed K.held limits.now served.new) }
     ensures none { OnOk result ((next_cut served.new.cut).0 ≡ None) }
     ensures lines { IfOk result (λ count. served.new.lines + length served.new.cut.left ≤ served.old.lines + length served.old.cut.left + count) }
-    ensures answered { IfOk result (λ count. Takes K.held limits.now served.old served.new (O.bytes sink.old) (O.bytes sink.new) (I.left source.old) (I.left source.new) count) }
-    ensures stopped { OnErr result (TakesPart K.held limits.now room served.old served.new (O.bytes sink.old) (O.bytes sink.new) (I.left source.old) (I.left source.new)) }
+    ensures answered { IfOk result (λ count. Takes D.files K.held limits.now served.old served.new (O.bytes sink.old) (O.bytes sink.new) (I.left source.old) (I.left source.new) count) }
+    ensures stopped { OnErr result (TakesPart D.files K.held limits.now room served.old served.new (O.bytes sink.old) (O.bytes sink.new) (I.left source.old) (I.left source.new)) }
     ensures nothing { IsErrOf result LinkEnd.Source → (served.new ≡ served.old) × (O.bytes sink.new ≡ O.bytes sink.old) × (I.left source.new ≡ I.left source.old) }
     ensures source_stays { I.faults source.old ≤ I.faults source.new }
     ensures source { IsErrOf result LinkEnd.Source → Rose (I.faults source.old) (I.faults source.new) }
     ensures keeper_stays { K.faults served.old.session.store.keeper ≤ K.faults served.new.session.store.keeper }
+    ensures tells { is_some (D.files served.new.session.store.disk) ≡ is_some (D.files served.old.session.store.disk) }
+    ensures disk_stays { D.faults served.old.session.store.disk ≤ D.faults served.new.session.store.disk }
     ensures keeper { IsErrOf result LinkEnd.Keeper → Rose (K.faults served.old.session.store.keeper) (K.faults served.new.session.store.keeper) }
+    ensures disk { IsErrOf result LinkEnd.Disk → Rose (D.faults served.old.session.store.disk) (D.faults served.new.session.store.disk) }
     ensures sink_stays { O.faults sink.old ≤ O.faults sink.new }
     ensures sink { IsErrOf result LinkEnd.Sink → Rose (O.faults sink.old) (O.faults sink.new) }
     ensures done { IsErrOf result LinkEnd.Done → ⊥ }
@@ -70,10 +74,10 @@ fn take_some<K: Keeper, I: Source, O: Sink>(
 }
 
 /// Serves the source to its end, and at most `limits.bytes` bytes of it.
-pub fn serve<K: Keeper, I: Source, O: Sink>(
+pub fn serve<D: Disk, K: Keeper, I: Source, O: Sink>(
     alloc: Global,
     limits: &Limits,
-    served: &mut Served<K>,
+    served: &mut Served<D, K>,
     source: &mut I,
     sink: &mut O,
 ) -> LinkEnd
@@ -82,14 +86,18 @@ pub fn serve<K: Keeper, I: Source, O: Sink>(
     requires fresh { served.old.lines + length served.old.cut.left ≡ 0 }
     requires sound { IsServed K.held limits.now served.old }
     requires none { (next_cut served.old.cut).0 ≡ None }
-    ensures all { result ≡ LinkEnd.Done → ServesAll K.held limits.now served.old served.new (O.bytes sink.old) (O.bytes sink.new) (I.left source.old) (I.left source.new) }
-    ensures ended { (result ≡ LinkEnd.Source) ⊎ (result ≡ LinkEnd.Long) → ServesEnded K.held limits.now served.old served.new (O.bytes sink.old) (O.bytes sink.new) (I.left source.old) (I.left source.new) }
-    ensures part { (result ≡ LinkEnd.Done → ⊥) → ServesPart K.held limits.now served.old served.new (O.bytes sink.old) (O.bytes sink.new) (I.left source.old) (I.left source.new) }
+    ensures sound { result ≡ LinkEnd.Done → IsSession K.held limits.now served.new.session }
+    ensures all { result ≡ LinkEnd.Done → ServesAll D.files K.held limits.now served.old served.new (O.bytes sink.old) (O.bytes sink.new) (I.left source.old) (I.left source.new) }
+    ensures ended { (result ≡ LinkEnd.Source) ⊎ (result ≡ LinkEnd.Long) → ServesEnded D.files K.held limits.now served.old served.new (O.bytes sink.old) (O.bytes sink.new) (I.left source.old) (I.left source.new) }
+    ensures part { (result ≡ LinkEnd.Done → ⊥) → ServesPart D.files K.held limits.now served.old served.new (O.bytes sink.old) (O.bytes sink.new) (I.left source.old) (I.left source.new) }
     ensures long { result ≡ LinkEnd.Long → ForSome (I.left source.old) (λ input. EndsLong limits.now.bytes input (I.left source.new)) }
     ensures source_stays { I.faults source.old ≤ I.faults source.new }
     ensures source { result ≡ LinkEnd.Source → Rose (I.faults source.old) (I.faults source.new) }
     ensures keeper_stays { K.faults served.old.session.store.keeper ≤ K.faults served.new.session.store.keeper }
+    ensures tells { is_some (D.files served.new.session.store.disk) ≡ is_some (D.files served.old.session.store.disk) }
+    ensures disk_stays { D.faults served.old.session.store.disk ≤ D.faults served.new.session.store.disk }
     ensures keeper { result ≡ LinkEnd.Keeper → Rose (K.faults served.old.session.store.keeper) (K.faults served.new.session.store.keeper) }
+    ensures disk { result ≡ LinkEnd.Disk → Rose (D.faults served.old.session.store.disk) (D.faults served.new.session.store.disk) }
     ensures sink_stays { O.faults sink.old ≤ O.faults sink.new }
     ensures sink { result ≡ LinkEnd.Sink → Rose (O.faults sink.old) (O.faults sink.new) }
 {

@@ -81,6 +81,7 @@ fn each_status_has_its_number_and_text(rt: HostRuntime) {
         Some("aggregator: source fault"),
     );
     expect_status(&rt, Status::SinkFault, 4, Some("aggregator: sink fault"));
+    expect_status(&rt, Status::DiskFault, 5, Some("aggregator: disk fault"));
     expect_status(
         &rt,
         Status::KeeperFault,

@@ -6,7 +6,7 @@ use Rattle.agg_model.specs.Entity.{is_domain_entity}
 use Rattle.agg_model.specs.Batch.{IsKey, IsValue}
 use Rattle.agg_model.specs.BatchRefusals.{is_outside}
 use Rattle.line_words.specs.declared.request.Request.{Request}
-use Rattle.line_words.specs.declared.request.Request.TheVariants.{Tx, Put, Commit, Open, Close, Latest}
+use Rattle.line_words.specs.declared.request.Request.TheVariants.{Tx, Put, Commit, Open, Close, Latest, Settle}
 use Rattle.line_words.specs.declared.request.LineError.{LineError}
 use Rattle.line_words.specs.declared.request.LineError.TheVariants as errors
 use Rattle.line_words.specs.Words.{words_of, number_of, bytes_of_word, entity_of_word}
@@ -99,6 +99,7 @@ request_of_words (form ∷ words) =
     else if bytes_eq form (codes "open") then bare_request Open words
     else if bytes_eq form (codes "close") then close_request words
     else if bytes_eq form (codes "latest") then latest_request words
+    else if bytes_eq form (codes "settle") then bare_request Settle words
     else Err errors.Syntax
 
 abbrev pub request_of : List ℕ → Result Request LineError
@@ -112,3 +113,4 @@ IsRequest Commit = Unit {0}
 IsRequest Open = Unit {0}
 IsRequest (Close t) = t < 2 ^ 63
 IsRequest (Latest t e k) = (t < 2 ^ 63) × IsTrue (is_domain_entity e) × IsKey k
+IsRequest Settle = Unit {0}

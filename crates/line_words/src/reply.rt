@@ -1,12 +1,12 @@
-ghost use Rattle.std.specs.Prelude.{◌≡◌, ◌++◌, IfOk};
+ghost use Rattle.std.specs.Prelude.{◌≡◌, ◌++◌, codes, IfOk};
 ghost use Rattle.hex.specs.Hex.{encode_lower};
-ghost use Rattle.line_words.specs.Replies.{with_number, reply_line, reply_text};
+ghost use Rattle.line_words.specs.Replies.{with_number, file_lines, reply_line, reply_text};
 
-use agg_outside::{Bytes, Memory};
+use agg_outside::{Bytes, Memory, Names};
 use std::alloc::Global;
 
 /// What a line is answered.
-#[derive(Debug, Drop, PartialEq, Eq)]
+#[derive(Debug, Drop)]
 pub enum Reply {
     /// It is done.
     Ok,
@@ -18,6 +18,8 @@ pub enum Reply {
     Value(Bytes),
     /// The key has no value.
     NoValue,
+    /// The names of the files, in order.
+    Files(Names),
     /// The line of this number, counted from 1, makes no request.
     ErrSyntax(u64),
 }
@@ -41,8 +43,22 @@ fn with_value(alloc: Global, mut text: Vec<u8>, value: &Bytes) -> Result<Vec<u8>
     Ok(text)
 }
 
+// A line for each name, and the last line without its line feed.
+fn with_files(alloc: Global, names: &Names) -> Result<Vec<u8>, Memory>
+    ensures { IfOk result (λ text. text.items ≡ file_lines names.now ++ codes "end") }
+{
+    let mut text = Vec::new(alloc);
+    for name in names.as_slice() {
+        text.extend_from_slice(b"file ")?;
+        text.extend_from_slice(name.as_slice())?;
+        text.push(b'\n')?;
+    }
+    text.extend_from_slice(b"end")?;
+    Ok(text)
+}
+
 impl Reply {
-    /// The line of the reply, with its line feed. Values are in hex, in lower case.
+    /// The line of the reply, or its lines, each with its line feed. Values are in hex, in lower case.
     pub fn print(&self, alloc: Global) -> Result<Bytes, Memory>
         ensures { IfOk result (λ text. text ≡ reply_text self.now) }
     {
@@ -67,6 +83,7 @@ impl Reply {
             }
             Reply::Value(value) => with_value(alloc, Vec::from_slice(alloc, b"value ")?, value),
             Reply::NoValue => Ok(Vec::from_slice(alloc, b"none")?),
+            Reply::Files(names) => with_files(alloc, names),
             Reply::ErrSyntax(line) => {
                 with_number(alloc, Vec::from_slice(alloc, b"err syntax")?, *line)
             }

@@ -24,6 +24,8 @@ pub enum Request {
     Close(u64),
     /// The latest value of a domain's key that the read transaction of this number sees.
     Latest(u64, Entity, Bytes),
+    /// Write all complete steps to files, and name the files.
+    Settle,
 }
 
 /// Why a line makes no request.
@@ -194,6 +196,9 @@ impl Request {
         }
         if form == b"latest".as_slice() {
             return latest(alloc, words);
+        }
+        if form == b"settle".as_slice() {
+            return bare(Request::Settle, words);
         }
         Err(LineError::Syntax)
     }

@@ -1,6 +1,6 @@
 use super::*;
 use agg_model::Entity;
-use agg_outside::Bytes;
+use agg_outside::{Bytes, Names};
 use std::test::*;
 
 #[test]
@@ -14,6 +14,7 @@ fn forms_without_bytes_are_read(rt: HostRuntime) {
         ("commit", Request::Commit),
         ("open", Request::Open),
         ("close 02", Request::Close(2)),
+        ("settle", Request::Settle),
     ] {
         assert!(rt;
             Request::read(rt.alloc(), line.as_bytes()) == Ok(want),
@@ -42,6 +43,7 @@ fn other_lines_are_refused(rt: HostRuntime) {
         ("latest 1 accounts a", LineError::Syntax),
         ("", LineError::Syntax),
         ("commit ", LineError::Syntax),
+        ("settle now", LineError::Syntax),
         ("tx +1", LineError::Syntax),
         ("tx 9223372036854775808", LineError::Syntax),
         ("put storage aa 01", LineError::Syntax),
@@ -67,6 +69,24 @@ fn each_reply_is_printed(rt: HostRuntime) -> Result<(), Fail> {
         let text = reply.print(alloc).ok().ok_or("memory")?;
         assert_eq!(rt; text.as_slice(), want.as_bytes());
     }
+    Ok(())
+}
+
+#[test]
+fn each_file_has_a_line(rt: HostRuntime) -> Result<(), Fail> {
+    let alloc = rt.alloc();
+    let text = Reply::Files(Names::new(alloc)).print(alloc);
+    assert_eq!(rt; text.ok().ok_or("memory")?.as_slice(), b"end\n".as_slice());
+    let name = Bytes::of(alloc, b"v1-accounts.0-1.kv")
+        .ok()
+        .ok_or("memory")?;
+    let mut names = Names::new(alloc);
+    names.push(name).ok().ok_or("memory")?;
+    let text = Reply::Files(names).print(alloc).ok().ok_or("memory")?;
+    assert_eq!(rt;
+        text.as_slice(),
+        b"file v1-accounts.0-1.kv\nend\n".as_slice()
+    );
     Ok(())
 }
 

@@ -1,5 +1,5 @@
 use Rattle.std.proofs.Common.{refl, [], arith, rules}
-use Rattle.agg_session.proofs.LineLaws.{on_err}
+use Rattle.plain_state.proofs.SettlingLaws.{on_err}
 use Rattle.agg_session.proofs.TakingLaws.{untaken}
 use Rattle.agg_session.proofs.StoppingLaws.{stops_before}
 use Rattle.agg_session.proofs.taking.take_some.Goals as goal
@@ -17,7 +17,7 @@ returns-in_err-piece-clause-stopped g c = on_err c.from_residual.result _ (recor
   piece = [];
   within = omega arith;
   is_taken = untaken (g.I.Source.left c.args.source.now) (g.I.Source.left c.take_piece.new.source) c.in_err-piece.ensures.err;
-  answers = λ start first text all. stops_before g.K.Keeper.held c.args.limits.now c.args.served.now c.args.served.now.session.store first (g.O.Sink.bytes c.args.sink.now) (g.O.Sink.bytes c.args.sink.now) start text [] refl refl all;
+  answers = λ start first text all. stops_before g.D.Disk.files g.K.Keeper.held c.args.limits.now c.args.served.now c.args.served.now.session.store first (g.O.Sink.bytes c.args.sink.now) (g.O.Sink.bytes c.args.sink.now) start text [] refl refl all;
 })
 
 pub returns-clause-answered : goal.returns-clause-answered

@@ -2,7 +2,7 @@ use Rattle.std.proofs.Common.{◌≡◌, true, is_some, Some, None, List, ℕ, �
 use Rattle.line_words.specs.LineCut.{Uncut, next_cut}
 use Rattle.agg_session.proofs.ServingLaws.{next_cut-shorter, next_cut-no_longer, next_cut-none, answered_same, answered_more, none_there, if_none, if_some}
 use Rattle.agg_session.specs.Written.{BeginsToPut}
-use Rattle.agg_session.proofs.LineLaws.{on_err}
+use Rattle.plain_state.proofs.SettlingLaws.{on_err}
 use Rattle.agg_session.proofs.StoppingLaws.{stops_line, stops_put}
 use Rattle.agg_session.proofs.served.Served.answer_line.Goals as goal
 
@@ -24,7 +24,7 @@ returns-in_default-clause-none g c =
 pub returns-in_default-clause-answered : goal.returns-in_default-clause-answered
 returns-in_default-clause-answered g c = λ start first text all.
     let none : (next_cut c.args.self.now.cut).0 ≡ None = none_there (next_cut c.args.self.now.cut).0 (ap is_some (sym c.in_default.is) ∙ c.in_ok-text.ensures.found) in
-    answered_same _ c.args.limits.now c.args.self.now _ first _ start text c.requires.sound c.next_reply.ensures.cut none (if_none _ _ c.in_default.is c.in_ok-text.ensures.none) refl all
+    answered_same _ _ c.args.limits.now c.args.self.now _ first _ start text c.requires.sound c.next_reply.ensures.cut none (if_none _ _ c.in_default.is c.in_ok-text.ensures.none) refl all
 
 pub returns-in_err-put_all-clause-lines : goal.returns-in_err-put_all-clause-lines
 returns-in_err-put_all-clause-lines g c =
@@ -47,18 +47,18 @@ returns-clause-shorter g c =
 pub returns-clause-answered : goal.returns-clause-answered
 returns-clause-answered g c = λ start first text all.
     let found : true ≡ is_some (next_cut c.args.self.now.cut).0 = ap is_some (sym c.in-Some.is) ∙ c.in_ok-text.ensures.found in
-    answered_more _ c.args.limits.now c.args.self.now _ c.in-Some.text first _ _ start text c.requires.sound c.next_reply.ensures.cut found refl (λ s stands. if_some _ _ _ c.in-Some.is (c.in_ok-text.ensures.exact s stands)) (λ b told. subst (λ (p : List ℕ). g.O.Sink.bytes c.put_all.new.sink ≡ Some (b ++ p)) c.as_slice.ensures (c.in_ok-put_all.ensures.ok b told)) all
+    answered_more _ _ c.args.limits.now c.args.self.now _ c.in-Some.text first _ _ start text c.requires.sound c.next_reply.ensures.cut found refl (λ s stands. if_some _ _ _ c.in-Some.is (c.in_ok-text.ensures.exact s stands)) (λ b told. subst (λ (p : List ℕ). g.O.Sink.bytes c.put_all.new.sink ≡ Some (b ++ p)) c.as_slice.ensures (c.in_ok-put_all.ensures.ok b told)) all
 
 pub returns-in_err-text-clause-stopped : goal.returns-in_err-text-clause-stopped
 returns-in_err-text-clause-stopped g c = λ start first text all.
     on_err c.from_residual.result _
-    (stops_line _ c.args.limits.now c.args.self.now first _ _ start text c.next_reply.new.session.store c.next_reply.new.cut c.requires.sound c.next_reply.ensures.cut c.in_err-text.ensures.err_found refl (λ s stands. c.in_err-text.ensures.err s stands) all)
+    (stops_line _ _ c.args.limits.now c.args.self.now first _ _ start text c.next_reply.new.session.store c.next_reply.new.cut c.requires.sound c.next_reply.ensures.cut c.in_err-text.ensures.err_found refl (λ s stands. c.in_err-text.ensures.err s stands) all)
 
 pub returns-in_err-put_all-clause-stopped : goal.returns-in_err-put_all-clause-stopped
 returns-in_err-put_all-clause-stopped g c = λ start first text all.
     let found : true ≡ is_some (next_cut c.args.self.now.cut).0 = ap is_some (sym c.in-Some.is) ∙ c.in_ok-text.ensures.found in
     on_err c.from_residual-in_err-put_all.result _
-    (stops_put _ c.args.limits.now c.args.self.now first _ _ start text c.next_reply.new.session c.next_reply.new.cut c.in-Some.text c.requires.sound c.next_reply.ensures.cut found
+    (stops_put _ _ c.args.limits.now c.args.self.now first _ _ start text c.next_reply.new.session c.next_reply.new.cut c.in-Some.text c.requires.sound c.next_reply.ensures.cut found
     (λ s stands. if_some _ _ _ c.in-Some.is (c.in_ok-text.ensures.exact s stands))
     (λ b told. subst (λ (p : List ℕ). BeginsToPut b p (g.O.Sink.bytes c.put_all.new.sink)) c.as_slice.ensures (c.in_err-put_all.ensures.err b told))
     all)

@@ -3,6 +3,6 @@ use Rattle.agg_session.proofs.session.Session.commit.Goals as goal
 
 pub returns-clause-exact : goal.returns-clause-exact
 returns-clause-exact g c = λ s stands.
-    committed _ c.args.limits.now c.args.self.now _ c.clear-pending.result c.in_ok-accepted.field-0 c.in-Some.accepted s stands
+    committed _ _ c.args.limits.now c.args.self.now _ c.clear-pending.result c.in_ok-accepted.field-0 c.in-Some.accepted s stands
     c.requires.sound.link.pending c.clear-pending.ensures.batch c.clear-pending.ensures.cleared c.in-Some.is
     c.in_ok-accepted.ensures.commits

@@ -1,0 +1,9 @@
+pub mod RowLaws
+pub mod CanonicalLaws
+pub mod CoverLaws
+pub mod ReadingLaws
+pub mod StoreLaws
+pub mod CollatingLaws
+pub mod PublishingLaws
+pub mod SettlingLaws
+pub mod DiskLaws
