@@ -59,8 +59,8 @@ impl SureDoors {
         })
     }
 
-    /// What the link at that place among those taken back, from 0, had written; `None` exactly where
-    /// there is no such link.
+    /// What the link at that place among those taken back, from 0, had written; `None` exactly
+    /// where there is no such link.
     pub fn output(&self, link: usize) -> Option<&[u8]>
         ensures value { option_copied result ≡ written_by (slice_get self.now.back link) }
         ensures none { IsNone result ↔ length self.now.back ≤ link }

@@ -1,4 +1,5 @@
-//! Writes that only add rows, or set the floor, made in the tree one by one: each row is looked for once.
+//! Writes that only add rows or set the floor, made in the tree one by one: each row is looked for
+//! once.
 ghost use Rattle.std.specs.Prelude.{◌≡◌, ◌≤◌, IsTrue, OnOk, OnErr, length, take};
 ghost use Rattle.std.specs.List.{list_all};
 ghost use Rattle.agg_outside.specs.Rows.{ascends, Held, written, CanWrite, applied, CanApply};
@@ -72,7 +73,7 @@ fn first_writes(writes: &[RowWrite], count: usize) -> &[RowWrite]
     &writes[..count]
 }
 
-/// Makes all additions in order, or none of them: where memory is wanting, those made are taken back.
+/// Makes all additions in order, or none: where memory is wanting, those made are taken back.
 pub fn add_all(
     alloc: Global,
     rows: &mut RowTree,

@@ -93,8 +93,8 @@ fn apply_to_copy(
     Ok(())
 }
 
-/// Makes all writes in order, or none. A batch mostly adds alone, or takes away alone: its rows are then
-/// looked for once each, and no others are read.
+/// Makes all writes in order, or none. A batch mostly adds alone, or takes away alone: its rows are
+/// then looked for once each, and no others are read.
 pub fn apply_all(
     alloc: Global,
     rows: &mut RowTree,
