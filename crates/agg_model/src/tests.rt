@@ -29,10 +29,6 @@ fn two_values(alloc: Global) -> Result<Batch, Memory> {
 fn a_change_counts_from_the_next_number_on(rt: HostRuntime) -> Result<(), Fail> {
     let alloc = rt.alloc();
     let batch = merge_repeats(alloc, two_values(alloc)?)?;
-    merged_laws();
-    grown_laws();
-    arranged_laws();
-    look_up_law(Entity::Accounts, b"\xaa", 6);
     assert_eq!(rt; batch.len(), 2);
     let expected: [(u64, Option<u8>); 5] = [
         (5, None),
