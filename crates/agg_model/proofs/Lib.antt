@@ -1,5 +1,6 @@
 pub mod ArrangedLaws
 pub mod Checks
+pub mod Climbs
 pub mod ContentsLaws
 pub mod CoverageLaws
 pub mod EntityLaws

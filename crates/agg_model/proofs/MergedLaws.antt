@@ -66,7 +66,7 @@ merged-HasNoRepeats cs = merged_from-HasNoRepeats [] cs tt
 -- ---- ascending numbers
 
 -- changes of one place have one number
-same_number : (c d : Change) → is_same_place (place_of c) (place_of d) ≡ true → c.tx ≡ d.tx
+pub same_number : (c d : Change) → is_same_place (place_of c) (place_of d) ≡ true → c.tx ≡ d.tx
 unfolding place_of
 same_number c d e = ap (λ (p : Place). p.number) (is_same_place-true _ _ e)
 
