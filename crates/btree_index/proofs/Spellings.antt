@@ -9,7 +9,7 @@ use Rattle.std.proofs.lemmas.List.FromFn.{fill_by_all, map-range_with_len_more}
 use Rattle.std.proofs.lemmas.Grind.{div_ceil_times}
 use Rattle.std.proofs.Math.Nat.{mul-le-mul_right, pow-le-pow_right, one-le-pow}
 use Rattle.std.specs.Prelude.{slice_index}
-use Rattle.word_file.proofs.Numbers.{wide64}
+use Rattle.file_numbers.proofs.Numbers.{wide64}
 use Rattle.btree_index.specs.Levels.{entries, level, levels, top_from, offset_bytes, levels_below, header, spelling, offsets_at, offsets_in, AreOffsets, IsHeld}
 
 -- ---- entries

@@ -7,6 +7,7 @@ mod levels;
 mod search;
 
 pub use file::BTreeFile;
+pub use word_file::AccessError;
 
 #[cfg(test)]
 mod tests;

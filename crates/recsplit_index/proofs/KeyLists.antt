@@ -14,7 +14,8 @@ use Rattle.std.proofs.lemmas.List.FromFn.{map-range_with_len_more, get_or-map-ra
 use Rattle.word_file.specs.Spelling.{IsPlace}
 use Rattle.recsplit_index.specs.declared.keys.HashedKey.{HashedKey}
 use Rattle.recsplit_index.specs.Hash.{scaled}
-use Rattle.recsplit_index.specs.Keys.{key_count, key_at, key_offset, key_offsets, hashed_key, hashed_keys, first_by_key, by_key}
+use Rattle.word_file.specs.Paired.{key_count, key_at, key_offset, key_offsets}
+use Rattle.recsplit_index.specs.Keys.{hashed_key, hashed_keys, first_by_key, by_key}
 use Rattle.recsplit_index.specs.Index.{bucket_keys}
 
 -- where the key of a place stands

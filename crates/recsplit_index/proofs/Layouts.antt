@@ -4,7 +4,7 @@ use Rattle.std.specs.List.{flat_map}
 use Rattle.std.specs.Int.{w64, to_be_bytes, from_be_bytes}
 use Rattle.std.proofs.lemmas.List.{append-nil, length-append, drop_at, drop-drop}
 use Rattle.std.proofs.lemmas.List.Concat.{flat_map-append}
-use Rattle.word_file.proofs.Numbers.{wide64}
+use Rattle.file_numbers.proofs.Numbers.{wide64}
 use Rattle.bit_store.specs.Bits.{bits_of, text_of}
 use Rattle.recsplit_index.specs.Spelling.{Index, number_bytes, laid_out, numbers_at, index_in, AreNumbers, IsSpelled, IsHeld}
 

@@ -1,5 +1,6 @@
 ghost use Rattle.std.specs.Prelude.{◌≡◌, ℕ, ◌+◌, ◌*◌, ◌<◌, ◌≤◌, ◌^◌, [], length, map, IfOk, OnOk, IfErr, IfSome, IfNone, Err, Some};
-ghost use Rattle.recsplit_index.specs.Keys.{IsPaired, KeysDiffer, key_count, key_offsets, IsKeyAt, IsNoKey};
+ghost use Rattle.word_file.specs.Paired.{IsPaired, KeysDiffer, key_count, key_offsets};
+ghost use Rattle.recsplit_index.specs.Keys.{IsKeyAt, IsNoKey};
 ghost use Rattle.recsplit_index.specs.Spelling.{spelling};
 ghost use Rattle.recsplit_index.specs.Index.{plain_index, index_of, IsIndexOf};
 ghost use Rattle.word_file.specs.Difference.{first_difference};
@@ -8,7 +9,7 @@ ghost use Rattle.word_file.specs.declared.access.AccessError.TheVariants.{Differ
 use crate::buckets::{Built, nodes_of};
 use crate::find::{find_sorted, is_key, offset_of};
 use crate::hash::key_hash;
-use crate::keys::{by_key, hashed_keys, offsets_of};
+use crate::keys::{by_key, hashed_keys};
 use crate::nodes::Parts;
 use crate::spell::lay_out;
 use agg_outside::{Bytes, Memory, Steps};
@@ -17,7 +18,7 @@ use std::alloc::Global;
 use std::collections::BTreeMap;
 use std::marker::{Brand, Model};
 use std::sync::ledger::{Blank, Ledger};
-use word_file::{AccessError, WordFile, first_difference};
+use word_file::{AccessError, WordFile, first_difference, key_offsets};
 
 /// The hash accessor of a word file.
 #[derive(Debug, Drop)]
@@ -98,7 +99,7 @@ fn build<L: Ledger>(
     ensures { IfOk result (λ x. x ≡ index_of tries words.now.words) }
 {
     let mut steps = Steps::<L>::of(blank);
-    let offsets = offsets_of(alloc, words)?;
+    let offsets = key_offsets(alloc, words)?;
     for salt in 0..8u8 {
         let keys = hashed_keys(
             alloc,

@@ -5,7 +5,8 @@ ghost use Rattle.std.specs.Cmp.Lexicographic.{slice_cmp};
 ghost use Rattle.std.specs.BTreeMap.{insert_entry};
 ghost use Rattle.word_file.specs.Spelling.{StartsAt, IsPlace, offset_of};
 ghost use Rattle.recsplit_index.specs.Hash.{key_hash};
-ghost use Rattle.recsplit_index.specs.Keys.{IsPaired, key_offsets, hashed_keys, by_key};
+ghost use Rattle.word_file.specs.Paired.{IsPaired, key_offsets};
+ghost use Rattle.recsplit_index.specs.Keys.{hashed_keys, by_key};
 ghost use Rattle.recsplit_index.specs.Index.{bucket_keys};
 
 use crate::hash::{key_hash, scale};
@@ -20,31 +21,6 @@ use word_file::WordFile;
 pub(crate) struct HashedKey {
     pub(crate) hash: u64,
     pub(crate) offset: u64,
-}
-
-/// The offset of the key after the one at `at`.
-pub(crate) fn key_after(words: &WordFile, at: u64) -> Option<u64>
-    requires { StartsAt words.now.words at }
-    ensures { (i : ℕ) → IsPlace words.now.words at i → result ≡ offset_of words.now.words (i + 2) }
-{
-    match words.next(at) {
-        Some(value) => words.next(value),
-        None => None,
-    }
-}
-
-/// The offsets of all keys in order.
-pub(crate) fn offsets_of(alloc: Global, words: &WordFile) -> Result<Vec<u64>, Memory>
-    requires { IsPaired words.now.words }
-    ensures { IfOk result (λ v. v.items ≡ key_offsets words.now.words) }
-{
-    let mut out = Vec::new(alloc);
-    let mut next = words.first();
-    while let Some(key) = next {
-        out.push(key)?;
-        next = key_after(words, key);
-    }
-    Ok(out)
 }
 
 /// The hash of the key at this offset.

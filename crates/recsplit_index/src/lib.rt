@@ -13,6 +13,7 @@ mod walk;
 
 pub use file::HashIndex;
 pub use hash::key_hash;
+pub use word_file::AccessError;
 
 #[cfg(test)]
 mod tests;

@@ -1,7 +1,7 @@
 use Rattle.std.proofs.Common.{ap, length, arith}
 use Rattle.std.proofs.lemmas.List.{length_push}
-use Rattle.btree_index.proofs.Gathers.{gathered_more, here}
-use Rattle.btree_index.proofs.levels.offsets_of.Goals as goal
+use Rattle.word_file.proofs.Gathers.{gathered_more, here}
+use Rattle.word_file.proofs.paired.key_offsets.Goals as goal
 
 pub loop-next-preserved : goal.loop-next-preserved
 loop-next-preserved c =

@@ -1,7 +1,7 @@
 use Rattle.std.proofs.Common.{length, ◌-◌, ◌≤◌}
-use Rattle.btree_index.specs.Keys.{key_count}
-use Rattle.btree_index.proofs.Gathers.{IsGathered}
-use Rattle.btree_index.proofs.levels.offsets_of.Given as goal
+use Rattle.word_file.specs.Paired.{key_count}
+use Rattle.word_file.proofs.Gathers.{IsGathered}
+use Rattle.word_file.proofs.paired.key_offsets.Given as goal
 
 abbrev pub invariant-loop-next : goal.invariant-loop-next
 invariant-loop-next l = record { few : length l.out.items ≤ key_count l.words.words; gathered : IsGathered l.words.words l.next l.out.items }

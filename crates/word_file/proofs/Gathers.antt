@@ -6,7 +6,7 @@ use Rattle.std.proofs.lemmas.List.{length_push}
 use Rattle.std.proofs.lemmas.List.FromFn.{map-range_with_len_more}
 use Rattle.word_file.specs.Spelling.{offset_at, offset_of, IsPlace}
 use Rattle.word_file.proofs.Places.{placed}
-use Rattle.recsplit_index.specs.Keys.{IsPaired, key_count, key_offset, key_offsets}
+use Rattle.word_file.specs.Paired.{IsPaired, key_count, key_offset, key_offsets}
 
 -- the offsets of the first keys, and the offset of the next
 pub record IsGathered (words : List (List ℕ)) (at : Option ℕ) (out : List ℕ) : Type 0 where

@@ -6,7 +6,7 @@ use Rattle.std.proofs.lemmas.Bool.{cases_lt, cases_Bool}
 use Rattle.std.proofs.lemmas.List.{append-nil, length-append, length-take-le, take_at, take_all, take-append-drop}
 use Rattle.word_file.specs.Difference.{first_difference}
 use Rattle.word_file.proofs.Differences.{first_difference-append, first_difference-same, one_ends}
-use Rattle.btree_index.specs.Agreement.{GoesOn, PartsAt}
+use Rattle.word_file.specs.Agreement.{GoesOn, PartsAt}
 
 -- ---- one text after another
 
