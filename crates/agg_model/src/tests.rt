@@ -85,6 +85,18 @@ fn a_change_without_bytes_has_content_64(rt: HostRuntime) -> Result<(), Fail> {
 }
 
 #[test]
+fn a_row_tells_its_act(rt: HostRuntime) -> Result<(), Fail> {
+    let alloc = rt.alloc();
+    let put = Act::Put(Bytes::of(alloc, b"\x01")?);
+    assert_eq!(rt; put.number(), 0);
+    assert!(rt; Act::of_number(0, Bytes::of(alloc, put.value())?) == Some(put));
+    assert_eq!(rt; Act::Mark.number(), 2);
+    assert!(rt; Act::of_number(1, Act::Del.into_value(alloc)) == Some(Act::Del));
+    assert!(rt; Act::of_number(3, Act::Del.into_value(alloc)) == None);
+    Ok(())
+}
+
+#[test]
 fn entities_have_numbers_and_names(rt: HostRuntime) -> Result<(), Fail> {
     for number in 0..7 {
         let entity = Entity::of_number(number).ok_or("there are seven")?;

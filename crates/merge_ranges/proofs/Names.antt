@@ -1,7 +1,8 @@
 -- Names from their parts, and names on the disk.
 use Rattle.std.specs.Prelude.{IfSome, codes}
 use Rattle.std.proofs.Common.{◌≡◌, ℕ, ◌^◌, ◌<◌, drop, arith, Bool, true, false, List, ◌∷◌, ◌++◌, Option, Some, None, sym, ◌∙◌, ap}
-use Rattle.agg_model.specs.Entity.{entity_name, entity_name-injective}
+use Rattle.agg_model.specs.Entity.{entity_name}
+use Rattle.agg_model.proofs.EntityLaws.{entity_name-injective}
 use Rattle.merge_ranges.specs.declared.name.FileName.{FileName}
 use Rattle.merge_ranges.specs.declared.name.DiskName.{DiskName}
 use Rattle.merge_ranges.specs.Name.{is_name, spelled, spelled_on_disk, on_disk_of, range_and_kind}
