@@ -14,7 +14,13 @@ pub(crate) fn entries_of(count: u64, level: u32) -> u64
     requires { level < 16 }
     ensures { result ≡ entries count level }
 {
-    count.div_ceil(stride_of(level))
+    let whole = count >> (4 * level);
+    let rest = count & (stride_of(level) - 1);
+    if rest == 0 {
+        whole
+    } else {
+        whole + 1
+    }
 }
 
 /// How many keys an entry of the level stands for.
@@ -23,7 +29,7 @@ pub(crate) fn stride_of(level: u32) -> u64
     ensures value { result ≡ 16 ^ level }
     ensures some { 0 < result }
 {
-    16u64.pow(level)
+    1 << (4 * level)
 }
 
 /// How many levels there are over so many keys.

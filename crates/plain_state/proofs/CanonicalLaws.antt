@@ -9,7 +9,7 @@ use Rattle.agg_model.specs.ContentsLaws.{kv_contents-later}
 use Rattle.merge_ranges.specs.declared.name.FileName.{FileName}
 use Rattle.merge_ranges.specs.Name.{spelled}
 use Rattle.domain_core.specs.KvFile.{tagged_pairs, kv_tag}
-use Rattle.domain_core.specs.KvFileLaws.{kv_file_bytes-later}
+use Rattle.domain_core.proofs.KvFileLaws.{kv_file_bytes-later}
 use Rattle.plain_state.specs.Canonical.{step_name, step_names, file_bytes, with_files, files_named}
 use Rattle.plain_state.specs.Store.{step_file, files_of_steps}
 

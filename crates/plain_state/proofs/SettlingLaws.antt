@@ -18,7 +18,7 @@ use Rattle.merge_ranges.specs.declared.name.FileName.{FileName}
 use Rattle.merge_ranges.specs.Kind.{ending}
 use Rattle.merge_ranges.specs.Name.{spelled, spelled_on_disk}
 use Rattle.domain_core.specs.KvFile.{TaggedPairs, tagged_pairs, kv_tag, kv_spelling}
-use Rattle.domain_core.specs.KvFileLaws.{kv_file_bytes-of}
+use Rattle.domain_core.proofs.KvFileLaws.{kv_file_bytes-of}
 use Rattle.plain_state.specs.declared.store.Store.{Store}
 use Rattle.plain_state.specs.Canonical.{step_name, step_names, file_bytes, files_named}
 use Rattle.plain_state.specs.Publishing.{temporary_of, SameBeside, IsOldOrWhole}

@@ -8,11 +8,13 @@ mod hash;
 mod keys;
 mod nodes;
 mod seeds;
+mod shared;
 mod spell;
 mod walk;
 
 pub use file::HashIndex;
 pub use hash::key_hash;
+pub use shared::shares_hash_index;
 pub use word_file::AccessError;
 
 #[cfg(test)]

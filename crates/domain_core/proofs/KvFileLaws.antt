@@ -4,7 +4,7 @@ use Rattle.std.proofs.Common.{ap}
 use Rattle.agg_model.specs.declared.entity.Entity.{Entity}
 use Rattle.agg_model.specs.declared.change.Change.{Change}
 use Rattle.agg_model.specs.Contents.{kv_contents}
-use Rattle.agg_model.specs.ContentsLaws.{kv_contents-later}
+use Rattle.agg_model.proofs.ContentsLaws.{kv_contents-later}
 use Rattle.domain_core.specs.KvFile.{TaggedPairs, tagged_pairs, kv_tag, kv_spelling, kv_file_bytes}
 
 -- a file with the contents has the bytes
