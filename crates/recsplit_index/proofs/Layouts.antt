@@ -44,9 +44,9 @@ pub numbers_none : (front : List ℕ) → front ≡ front ++ number_bytes []
 unfolding number_bytes
 numbers_none front = sym (append-nil front)
 
-pub are_numbers : (numbers : List ℕ) → ((i : ℕ) → get_or numbers i 0 < 2 ^ 64) → AreNumbers numbers
-are_numbers [] fits = tt
-are_numbers (x ∷ xs) fits = (fits 0, are_numbers xs (λ i. fits (suc i)))
+pub are_numbers_within : (numbers : List ℕ) → ((i : ℕ) → i < length numbers → get_or numbers i 0 < 2 ^ 64) → AreNumbers numbers
+are_numbers_within [] fits = tt
+are_numbers_within (x ∷ xs) fits = (fits 0 (omega arith), are_numbers_within xs (λ i lt. fits (suc i) (omega arith)))
 
 both_numbers : (xs ys : List ℕ) → AreNumbers xs → AreNumbers ys → AreNumbers (xs ++ ys)
 both_numbers [] ys one other = other

@@ -13,3 +13,5 @@ pub mod Walkings
 pub mod Sortings
 pub mod Finds
 pub mod Plains
+pub mod Followings
+pub mod Layings

@@ -2,10 +2,12 @@
 #![tactic(auto)]
 
 mod buckets;
+mod compare;
 mod file;
 mod find;
 mod hash;
 mod keys;
+mod layout;
 mod nodes;
 mod seeds;
 mod shared;

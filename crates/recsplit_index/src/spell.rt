@@ -6,7 +6,7 @@ use file_numbers::{put_u32, put_u64};
 use std::alloc::Global;
 
 /// `AGH1`.
-const MAGIC: u32 = 0x4147_4831;
+pub(crate) const MAGIC: u32 = 0x4147_4831;
 
 fn put_numbers(out: &mut Vec<u8>, numbers: &[u64]) -> Result<(), Memory>
     ensures { OnOk result (out.new.items ≡ out.old.items ++ number_bytes numbers.now) }
@@ -29,7 +29,9 @@ pub(crate) fn lay_out(
 ) -> Result<Vec<u8>, Memory>
     ensures { IfOk result (λ v. v.items ≡ laid_out form salt starts.now offsets.now text.now) }
 {
-    let mut out = Vec::new(alloc);
+    let numbers = starts.len().saturating_add(offsets.len());
+    let room = numbers.saturating_mul(8).saturating_add(text.len());
+    let mut out = Vec::with_capacity(alloc, room.saturating_add(16))?;
     put_u32(&mut out, MAGIC)?;
     out.extend_from_slice(&[form, salt, 0, 0])?;
     put_u64(&mut out, offsets.len() as u64)?;
