@@ -16,11 +16,7 @@ pub(crate) fn entries_of(count: u64, level: u32) -> u64
 {
     let whole = count >> (4 * level);
     let rest = count & (stride_of(level) - 1);
-    if rest == 0 {
-        whole
-    } else {
-        whole + 1
-    }
+    if rest == 0 { whole } else { whole + 1 }
 }
 
 /// How many keys an entry of the level stands for.

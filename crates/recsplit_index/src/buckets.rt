@@ -50,7 +50,10 @@ pub(crate) fn nodes_of<L: Ledger>(
     let count = words.count() / 2;
     let buckets = bucket_count(count);
     let groups = groups_of(alloc, salt, words, buckets, steps)?;
-    let mut starts = Vec::with_capacity(alloc, buckets.saturating_mul(2).saturating_add(2) as usize)?;
+    let mut starts = Vec::with_capacity(
+        alloc,
+        buckets.saturating_mul(2).saturating_add(2) as usize,
+    )?;
     let mut parts = Parts {
         codes: RiceWriter::new(alloc),
         offsets: Vec::with_capacity(alloc, count as usize)?,

@@ -12,7 +12,7 @@ returns-then-end-bytes c =
     let one = follows_first bytes c.to_be_bytes.result c.follow-magic.result c.follow-magic.ensures.end c.follow-magic.ensures.place in
     let all = c.follow_on.ensures.text _ (c.follow_numbers-offsets.ensures.text _ (c.follow_numbers-starts.ensures.text _ (c.follow_on-header.ensures.text _ (c.follow_on-form.ensures.text _ one)))) in
     let whole = follows_whole bytes c.to_be_bytes.result _ c.to_be_bytes-2.result c.as_slice-3.result.now c.as_slice.result.now c.as_slice-2.result.now l.form l.salt l.starts.items l.offsets.items l.text c.follow_on.result c.to_be_bytes.ensures refl
-        (c.to_be_bytes-2.ensures ∙ ap (to_be_bytes w64) (omega (arith, c.len-count.ensures))) c.as_slice.ensures.value c.as_slice-2.ensures.value c.as_slice-3.ensures all
+    (c.to_be_bytes-2.ensures ∙ ap (to_be_bytes w64) (omega (arith, c.len-count.ensures))) c.as_slice.ensures.value c.as_slice-2.ensures.value c.as_slice-3.ensures all
     in
     ends_short bytes (laid_out l.form l.salt l.starts.items l.offsets.items l.text) c.in-Ok.end (subst (λ (r : Result ℕ ℕ). Follows bytes (laid_out l.form l.salt l.starts.items l.offsets.items l.text) r) c.in-Ok.is whole) c.if-end-bytes.true
 
@@ -23,7 +23,7 @@ returns-else-end-bytes c =
     let one = follows_first bytes c.to_be_bytes.result c.follow-magic.result c.follow-magic.ensures.end c.follow-magic.ensures.place in
     let all = c.follow_on.ensures.text _ (c.follow_numbers-offsets.ensures.text _ (c.follow_numbers-starts.ensures.text _ (c.follow_on-header.ensures.text _ (c.follow_on-form.ensures.text _ one)))) in
     let whole = follows_whole bytes c.to_be_bytes.result _ c.to_be_bytes-2.result c.as_slice-3.result.now c.as_slice.result.now c.as_slice-2.result.now l.form l.salt l.starts.items l.offsets.items l.text c.follow_on.result c.to_be_bytes.ensures refl
-        (c.to_be_bytes-2.ensures ∙ ap (to_be_bytes w64) (omega (arith, c.len-count.ensures))) c.as_slice.ensures.value c.as_slice-2.ensures.value c.as_slice-3.ensures all
+    (c.to_be_bytes-2.ensures ∙ ap (to_be_bytes w64) (omega (arith, c.len-count.ensures))) c.as_slice.ensures.value c.as_slice-2.ensures.value c.as_slice-3.ensures all
     in
     ends_same bytes (laid_out l.form l.salt l.starts.items l.offsets.items l.text) c.in-Ok.end (subst (λ (r : Result ℕ ℕ). Follows bytes (laid_out l.form l.salt l.starts.items l.offsets.items l.text) r) c.in-Ok.is whole) c.if-end-bytes.false
 
@@ -34,6 +34,6 @@ returns-in-Err c =
     let one = follows_first bytes c.to_be_bytes.result c.follow-magic.result c.follow-magic.ensures.end c.follow-magic.ensures.place in
     let all = c.follow_on.ensures.text _ (c.follow_numbers-offsets.ensures.text _ (c.follow_numbers-starts.ensures.text _ (c.follow_on-header.ensures.text _ (c.follow_on-form.ensures.text _ one)))) in
     let whole = follows_whole bytes c.to_be_bytes.result _ c.to_be_bytes-2.result c.as_slice-3.result.now c.as_slice.result.now c.as_slice-2.result.now l.form l.salt l.starts.items l.offsets.items l.text c.follow_on.result c.to_be_bytes.ensures refl
-        (c.to_be_bytes-2.ensures ∙ ap (to_be_bytes w64) (omega (arith, c.len-count.ensures))) c.as_slice.ensures.value c.as_slice-2.ensures.value c.as_slice-3.ensures all
+    (c.to_be_bytes-2.ensures ∙ ap (to_be_bytes w64) (omega (arith, c.len-count.ensures))) c.as_slice.ensures.value c.as_slice-2.ensures.value c.as_slice-3.ensures all
     in
     ends_apart bytes (laid_out l.form l.salt l.starts.items l.offsets.items l.text) c.in-Err.place (subst (λ (r : Result ℕ ℕ). Follows bytes (laid_out l.form l.salt l.starts.items l.offsets.items l.text) r) c.in-Err.is whole)
