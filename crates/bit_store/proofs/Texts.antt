@@ -214,3 +214,7 @@ pub bits_of-text_of : (bits : List Bool) → take (length bits) (bits_of (text_o
 bits_of-text_of bits =
     let n : ℕ = bytes_for (length bits) in
     ap (take (length bits)) (bits_of-bytes_from n bits (omega arith)) ∙ take_at bits (replicate (8 * n - length bits) false) (length bits) refl
+
+-- bytes hold all their bits
+pub all_held : (n : ℕ) (bytes : List ℕ) → n ≡ length bytes → IsHeld (8 * n) bytes
+all_held n bytes e = record { count = omega (arith, e); rest = rw e (number_in-lt bytes) }

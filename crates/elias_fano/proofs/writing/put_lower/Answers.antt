@@ -1,16 +1,17 @@
-use Rattle.std.proofs.Common.{◌≡◌, ◌+◌, ◌^◌, ◌<◌, ◌++◌, ◌∙◌, ℕ, List, Bool, take, get_or, ap, arith}
-use Rattle.std.proofs.lemmas.List.{take_all}
+use Rattle.std.proofs.Common.{◌≡◌, ◌+◌, ◌^◌, ◌<◌, ◌++◌, ◌∙◌, ℕ, List, Bool, take, get_or, sym, ap, arith}
+use Rattle.std.proofs.lemmas.List.{take_all, append-nil}
+use Rattle.elias_fano.proofs.Joined.{on_ok}
 use Rattle.elias_fano.proofs.Lower.{fields, fields-lower}
 use Rattle.bit_store.specs.Bits.{low_bits}
 use Rattle.elias_fano.proofs.Waiting.{no_bits, field_waits, field_fits, below_above}
-use Rattle.elias_fano.proofs.writing.lower_of.Goals.{then-used-width-gt-FULL+in_ok-push, else-used-width-gt-FULL}
-use Rattle.elias_fano.proofs.writing.lower_of.Goals as goal
+use Rattle.elias_fano.proofs.writing.put_lower.Goals.{then-used-width-gt-FULL+in_ok-push, else-used-width-gt-FULL}
+use Rattle.elias_fano.proofs.writing.put_lower.Goals as goal
 
 pub loop-item-init : goal.loop-item-init
-loop-item-init c = record { narrow = omega arith; small = omega arith; held = no_bits c.new-bits.result 0 ∙ c.new-bits.ensures }
+loop-item-init c = record { narrow = omega arith; small = omega arith; held = no_bits c.args.bits.now 0 ∙ sym (append-nil c.args.bits.now) }
 
 pub returns : goal.returns
-returns c = c.in_ok-push-2.ensures.ok ∙ c.loop-item.invariant.held ∙ ap (fields c.args.width) (take_all c.loop-item.item-index c.args.items.now (omega arith)) ∙ fields-lower c.args.width c.args.items.now
+returns c = on_ok c.push-2.result c.push-2.new.self _ _ c.push-2.ensures.ok (c.loop-item.invariant.held ∙ ap (λ xs. c.args.bits.now ++ fields c.args.width xs) (take_all c.loop-item.item-index c.args.items.now (omega arith)) ∙ ap (λ bs. c.args.bits.now ++ bs) (fields-lower c.args.width c.args.items.now))
 
 pushed : (bits front : List Bool) (used word l : ℕ) → l < 64 → bits ≡ front → used ≡ 0 → word ≡ 0 → (used + l < 64) × (word < 2 ^ used) × (bits ++ low_bits used word ≡ front)
 pushed bits front used word l narrow is e f = rw (e, f) (omega arith, omega arith, no_bits bits 0 ∙ is)
@@ -21,7 +22,7 @@ kept bits old front used u word w l narrow is e f small held = rw (e, f, is) (na
 pub overflow_add-word : goal.overflow_add-word
 overflow_add-word c =
     let p = c.if-used-width-gt-FULL in
-    let front = fields c.args.width (take c.loop-item.item-index c.args.items.now) in
+    let front = c.args.bits.now ++ fields c.args.width (take c.loop-item.item-index c.args.items.now) in
     let ready : (p.used + c.args.width < 64) × (p.word < 2 ^ p.used) × (p.bits ++ low_bits p.used p.word ≡ front) = elim c.if-used-width-gt-FULL.branch [
       | then-used-width-gt-FULL+in_ok-push w ↦
           let flushed = w.bits-is ∙ w.in_ok-push.ensures.ok ∙ c.loop-item.invariant.held in
@@ -34,7 +35,7 @@ overflow_add-word c =
 pub loop-item-preserved : goal.loop-item-preserved
 loop-item-preserved c =
     let p = c.if-used-width-gt-FULL in
-    let front = fields c.args.width (take c.loop-item.item-index c.args.items.now) in
+    let front = c.args.bits.now ++ fields c.args.width (take c.loop-item.item-index c.args.items.now) in
     let ready : (p.used + c.args.width < 64) × (p.word < 2 ^ p.used) × (p.bits ++ low_bits p.used p.word ≡ front) = elim c.if-used-width-gt-FULL.branch [
       | then-used-width-gt-FULL+in_ok-push w ↦
           let flushed = w.bits-is ∙ w.in_ok-push.ensures.ok ∙ c.loop-item.invariant.held in
@@ -45,5 +46,5 @@ loop-item-preserved c =
     rw fits.1 (record {
       narrow = ready.0;
       small = below_above p.used c.args.width p.word c.low_of.result ready.1 fits.0;
-      held = field_waits c.args.width p.used p.word c.low_of.result p.bits c.args.items.now c.loop-item.item-index c.loop-item-test.true ready.1 c.low_of.ensures ready.2;
+      held = field_waits c.args.width p.used p.word c.low_of.result p.bits c.args.bits.now c.args.items.now c.loop-item.item-index c.loop-item-test.true ready.1 c.low_of.ensures ready.2;
     })
