@@ -88,7 +88,13 @@ fn one_from(parts: &Parts<'_>, marks: Option<&Marks>, i: u64, from: u64) -> u64
 
 // The first item from `start` on that isn't below `at`, and the place of its 1, where it is among the
 // next few; the 1 of `start` stands at bit `from` or behind.
-fn first_near(parts: &Parts<'_>, marks: Option<&Marks>, start: u64, from: u64, at: u64) -> Option<(u64, u64)>
+fn first_near(
+    parts: &Parts<'_>,
+    marks: Option<&Marks>,
+    start: u64,
+    from: u64,
+    at: u64,
+) -> Option<(u64, u64)>
     requires sound { IsSound parts.now }
     requires marks { IfSome marks (λ m. AreMarks parts.now.upper m.now) }
     requires within { start ≤ parts.now.count }

@@ -85,7 +85,10 @@ fn fault_of(parts: &Parts<'_>, last: u64) -> Option<EfError>
     }
     let more = parts.upper.ones_between(at, len);
     if more > 0 {
-        return Some(EfError::Count { said, found: said + more });
+        return Some(EfError::Count {
+            said,
+            found: said + more,
+        });
     }
     ending(fall, before, last)
 }
