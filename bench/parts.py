@@ -1,4 +1,4 @@
-"""What the measurements of the program `bench_parts` share: it, its twins in plain Rust, and their runs."""
+"""What the measurements share: the programs, proved and built, their twins in plain Rust, and runs of both."""
 
 import os
 import subprocess
@@ -6,19 +6,26 @@ import tempfile
 from pathlib import Path
 
 TOP = Path(__file__).resolve().parent.parent
-CRATE = TOP / "crates/bench_parts"
 
 
 class NotMeasured(Exception):
     """Why there is nothing to report."""
 
 
-def built_program():
-    """The program, proved and built anew where a source has changed."""
-    subprocess.run(["rt", "run"], cwd=CRATE, stdin=subprocess.DEVNULL, capture_output=True)
-    program = CRATE / "out/bench_parts"
+def built_program(crate="bench_parts"):
+    """The program of this crate, proved and built anew.
+
+    What an earlier build left is taken away first: where building fails, an old program would be measured.
+    """
+    folder = TOP / "crates" / crate
+    program = folder / "out" / crate
+    program.unlink(missing_ok=True)
+    build = subprocess.run(
+        ["rt", "run"], cwd=folder, stdin=subprocess.DEVNULL, stdout=subprocess.DEVNULL, stderr=subprocess.PIPE, text=True
+    )
     if not program.exists():
-        raise NotMeasured("the program could not be built")
+        said = build.stderr.strip().splitlines()[-1:]
+        raise NotMeasured(" ".join([f"{crate} could not be built:", *said]))
     return program
 
 

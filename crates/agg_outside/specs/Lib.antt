@@ -5,3 +5,4 @@ pub mod Files
 pub mod Links
 pub mod FileList
 pub mod FilePlaces
+pub mod Devices

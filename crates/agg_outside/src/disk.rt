@@ -12,8 +12,8 @@ use std::alloc::Global;
 
 /// Holds a finite map from names to files.
 ///
-/// Whether it tells what it holds is its own choice, for good: what it tells once it goes on telling,
-/// and one that doesn't tell never does.
+/// A contract can name the files only if the disk tells them. Each disk either always tells them or
+/// never does: no call makes it begin or stop.
 pub trait Disk: Send + Drop {
     /// How often the disk has failed.
     ghost faults: { Self → ℕ };

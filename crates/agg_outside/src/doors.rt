@@ -1,5 +1,5 @@
 //! Where links come from.
-ghost use Rattle.std.specs.Prelude.{◌≡◌, ◌+◌, ◌<◌, ◌≤◌, ◌++◌, [], ◌∷◌, ℕ, List, Option, Some, IfSome, IfNone, IfOk, OnOk, OnErr};
+ghost use Rattle.std.specs.Prelude.{◌≡◌, ◌+◌, ◌<◌, ◌≤◌, ◌++◌, [], ◌∷◌, ℕ, List, Option, Some, None, IfSome, IfNone, IfOk, OnOk, OnErr};
 ghost use Rattle.agg_outside.specs.Counts.{FailsForCause};
 ghost use Rattle.agg_outside.specs.Links.{Closed, IsFirst, IsExhausted, given_after};
 
@@ -8,6 +8,10 @@ use crate::sink::Sink;
 use crate::source::Source;
 
 /// Accepts links, gives them out and takes them back.
+///
+/// A contract can name the bytes of the links that are left only if the doors tell them, and likewise
+/// the links that were taken back. For each of the two, doors either always tell or never do: no call
+/// makes them begin or stop.
 pub trait Doors {
     /// The input of a link.
     type In: Source + Send + Drop;
@@ -48,6 +52,7 @@ pub trait Doors {
         ensures emptied { OnOk result (IfSome (back self.old) (λ _. back self.new ≡ Some [])) }
         ensures err { OnErr result ((port self.new ≡ port self.old) × (links self.new ≡ links self.old)
             × (given self.new ≡ given self.old) × (taken self.new ≡ taken self.old) × (back self.new ≡ back self.old)) }
+        ensures silent { IfNone (back self.old) (back self.new ≡ None) }
         ensures left { left self.new ≡ left self.old }
         ensures cause { FailsForCause (faults self.old) (faults self.new) result };
 
@@ -63,6 +68,7 @@ pub trait Doors {
         ensures none_taken { IfOk result (λ next. IfNone next (left self.new ≡ left self.old)) }
         ensures counted { IfOk result (λ next. given self.new ≡ given_after (given self.old) next) }
         ensures err { OnErr result ((given self.new ≡ given self.old) × (left self.new ≡ left self.old)) }
+        ensures silent { IfNone (left self.old) (left self.new ≡ None) }
         ensures back { (back self.new ≡ back self.old) × (taken self.new ≡ taken self.old) }
         ensures listening { (port self.new ≡ port self.old) × (links self.new ≡ links self.old) }
         ensures cause { FailsForCause (faults self.old) (faults self.new) result };
@@ -80,6 +86,7 @@ pub trait Doors {
     fn take_back(&mut self, done: Self::Done)
         requires { taken self.old < given self.old }
         ensures back { IfSome (back self.old) (λ links. back self.new ≡ Some (links ++ closed done ∷ [])) }
+        ensures silent { IfNone (back self.old) (back self.new ≡ None) }
         ensures counted { taken self.new ≡ taken self.old + 1 }
         ensures left { left self.new ≡ left self.old }
         ensures listening { (port self.new ≡ port self.old) × (links self.new ≡ links self.old) × (given self.new ≡ given self.old) }

@@ -10,8 +10,8 @@ use std::alloc::Global;
 
 /// Holds one list of rows, whose ids ascend strictly, and the floor.
 ///
-/// Whether it tells what it holds is its own choice, for good: what it tells once it goes on telling,
-/// and one that doesn't tell never does.
+/// A contract can name the rows and the floor only if the keeper tells them. Each keeper either always tells them or
+/// never does: no call makes it begin or stop.
 pub trait Keeper: Send + Drop {
     /// How often the keeper has failed.
     ghost faults: { Self → ℕ };

@@ -11,9 +11,12 @@ mod gate;
 mod keeper;
 mod list;
 mod rows;
+mod shared;
 mod sink;
 mod source;
 mod steps;
+#[cfg(test)]
+mod tests;
 
 pub use bytes::{Bytes, slice_fits};
 pub use disk::Disk;

@@ -1,12 +1,13 @@
 //! Where replies go.
-ghost use Rattle.std.specs.Prelude.{◌≡◌, ◌<◌, ◌≤◌, ◌++◌, ℕ, List, Option, Some, IfSome, IfOk, OnErr, length, take};
+ghost use Rattle.std.specs.Prelude.{◌≡◌, ◌<◌, ◌≤◌, ◌++◌, ℕ, List, Option, Some, None, IfSome, IfNone, IfOk, OnErr, length, take};
 ghost use Rattle.agg_outside.specs.Counts.{HasCause};
 
 use crate::errors::SinkError;
 
 /// Takes bytes in order.
 ///
-/// Whether it tells what was written is its own choice; what it tells once it goes on telling.
+/// A contract can name the bytes that were written only if the sink tells them. Each sink either always
+/// tells them or never does: no call makes it begin or stop.
 pub trait Sink {
     /// How often the sink has failed.
     ghost faults: { Self → ℕ };
@@ -21,5 +22,6 @@ pub trait Sink {
         ensures some { IfOk result (λ count. 0 < length piece.now → 0 < count) }
         ensures appended { IfSome (bytes self.old) (λ before. IfOk result (λ count. bytes self.new ≡ Some (before ++ take count piece.now))) }
         ensures err { OnErr result (bytes self.new ≡ bytes self.old) }
+        ensures silent { IfNone (bytes self.old) (bytes self.new ≡ None) }
         ensures cause { HasCause SinkError.Failed (faults self.old) (faults self.new) result };
 }

@@ -1,12 +1,13 @@
 //! Where input comes from.
-ghost use Rattle.std.specs.Prelude.{◌≡◌, ◌≢◌, ◌<◌, ◌≤◌, ◌↔◌, ℕ, List, [], Option, Some, IfSome, IfOk, OnErr, length, take, drop};
+ghost use Rattle.std.specs.Prelude.{◌≡◌, ◌≢◌, ◌<◌, ◌≤◌, ◌↔◌, ℕ, List, [], Option, Some, None, IfSome, IfNone, IfOk, OnErr, length, take, drop};
 ghost use Rattle.agg_outside.specs.Counts.{FailsForCause};
 
 use crate::errors::Failed;
 
 /// Gives bytes in order.
 ///
-/// Whether it tells the bytes that are left is its own choice; what it tells once it goes on telling.
+/// A contract can name the bytes that are left only if the source tells them. Each source either always
+/// tells them or never does: no call makes it begin or stop.
 pub trait Source {
     /// How often the source has failed.
     ghost faults: { Self → ℕ };
@@ -24,5 +25,6 @@ pub trait Source {
         // Nothing comes exactly where no byte is left.
         ensures end { IfSome (left self.old) (λ bytes. IfOk result (λ count. 0 < length buf.old → (count ≡ 0 ↔ bytes ≡ []))) }
         ensures err { OnErr result (left self.new ≡ left self.old) }
+        ensures silent { IfNone (left self.old) (left self.new ≡ None) }
         ensures cause { FailsForCause (faults self.old) (faults self.new) result };
 }

@@ -3,5 +3,6 @@ pub mod SessionLaws
 pub mod LineLaws
 pub mod ServingLaws
 pub mod StoppingLaws
+pub mod BlameLaws
 pub mod TakingLaws
 pub mod TopLaws

@@ -1,7 +1,7 @@
--- Laws of the step of one line.
-use Rattle.std.proofs.Common.{◌≡◌, ℕ, Bool, true, false, ◌==◌, List, [], ◌∷◌, length, Option, unwrap_or, refl, ap, subst, sym, ◌∙◌, inr, arith, eqb-true}
-use Rattle.agg_outside.specs.Files.{Files}
-use Rattle.agg_outside.specs.Rows.{Held}
+-- Laws of the effect of one line.
+use Rattle.std.proofs.Common.{◌≡◌, ℕ, Bool, true, false, ◌==◌, List, [], ◌∷◌, length, Option, Some, None, IfSome, unwrap_or, refl, ap, subst, sym, ◌∙◌, inl, inr, arith, eqb-true}
+use Rattle.agg_outside.specs.declared.disk.Disk.{Ghosts as DiskGhosts}
+use Rattle.agg_outside.specs.declared.keeper.Keeper.{Ghosts as KeeperGhosts}
 use Rattle.line_words.specs.declared.reply.Reply.{Reply}
 use Rattle.line_words.specs.declared.reply.Reply.TheVariants.{ErrSyntax}
 use Rattle.line_words.specs.Requests.{request_of}
@@ -9,36 +9,45 @@ use Rattle.line_words.specs.Replies.{reply_text}
 use Rattle.agg_session.specs.declared.limits.Limits.{Limits}
 use Rattle.agg_session.specs.declared.session.Session.{Session}
 use Rattle.agg_session.specs.State.{State, Outcome}
-use Rattle.agg_session.specs.Answer.{Step, told, read_outcome, short_step}
+use Rattle.agg_session.specs.Answer.{Effect, effect_of, read_outcome, short_effect}
+use Rattle.agg_model.specs.ChangeList.{ChangeList}
+use Rattle.line_words.specs.LineCut.{Piece}
+use Rattle.plain_state.specs.declared.store.Store.{Store}
 use Rattle.plain_state.specs.Store.{Holds}
 use Rattle.plain_state.proofs.StoreLaws.{kept}
-use Rattle.agg_session.specs.Running.{Stands, Answers, Steps, EndsAt}
+use Rattle.agg_session.specs.Running.{Stands, Answers, HasEffect, EndsAt}
 
-pub short_step-empty : (limits : Limits) (number : ℕ) (line : List ℕ) (s : State) → line ≡ [] → short_step limits number line s ≡ record { state = s; reply = [] }
-short_step-empty limits number line s empty = ap (λ l. short_step limits number l s) empty
+pub short_effect-empty : (limits : Limits) (number : ℕ) (line : List ℕ) (s : State) → line ≡ [] → short_effect limits number line s ≡ record { state = s; reply = []; settled = 0 }
+short_effect-empty limits number line s empty = ap (λ l. short_effect limits number l s) empty
 
-pub short_step-some : (limits : Limits) (number : ℕ) (line : List ℕ) (s : State) → (length line ≡ 0 → ⊥) → short_step limits number line s ≡ told number (read_outcome limits (request_of line) s)
-short_step-some limits number [] s some = absurd (some refl)
-short_step-some limits number (b ∷ line) s some = refl
+pub short_effect-some : (limits : Limits) (number : ℕ) (line : List ℕ) (s : State) → (length line ≡ 0 → ⊥) → short_effect limits number line s ≡ effect_of number (read_outcome limits (request_of line) s)
+short_effect-some limits number [] s some = absurd (some refl)
+short_effect-some limits number (b ∷ line) s some = refl
 
 -- a line that leaves the session as it is
-pub steps_same : {D K : Type 0} (files : D → Option Files) (held : K → Option Held) (session : Session D K) (text : List ℕ) (s : State) (d : Step) → d ≡ record { state = s; reply = text } → Stands files held session s → Steps files held session text d
-steps_same files held session text s d e stands =
-    subst (λ (x : Step). Steps files held session text x) (sym e) (record { told = refl; stands = stands })
+pub effect_same : {D K : Type 0} (disk : DiskGhosts D) (keeper : KeeperGhosts K) (session : Session D K) (text : List ℕ) (s : State) (d : Effect) → d ≡ record { state = s; reply = text; settled = 0 } → Stands disk keeper session s → HasEffect disk keeper session text d
+effect_same disk keeper session text s d e stands =
+    subst (λ (x : Effect). HasEffect disk keeper session text x) (sym e) (record { told = refl; stands = stands; settled = omega arith })
 
 -- a line whose reply was found
-pub steps_told : {D K : Type 0} (files : D → Option Files) (held : K → Option Held) (session : Session D K) (number : ℕ) (reply : Reply) (o : Option Reply) (text : List ℕ) (out : Outcome) (d : Step) → d ≡ told number out → Answers files held session o out → reply ≡ unwrap_or o (ErrSyntax number) → text ≡ reply_text reply → Steps files held session text d
-steps_told files held session number reply o text out d e answers is printed =
-    subst (λ (x : Step). Steps files held session text x) (sym e)
+pub effect_told : {D K : Type 0} (disk : DiskGhosts D) (keeper : KeeperGhosts K) (session : Session D K) (number : ℕ) (reply : Reply) (o : Option Reply) (text : List ℕ) (out : Outcome) (d : Effect) → d ≡ effect_of number out → Answers disk keeper session o out → reply ≡ unwrap_or o (ErrSyntax number) → text ≡ reply_text reply → HasEffect disk keeper session text d
+effect_told disk keeper session number reply o text out d e answers is printed =
+    subst (λ (x : Effect). HasEffect disk keeper session text x) (sym e)
     (record {
       told = printed ∙ ap reply_text (is ∙ ap (λ x. unwrap_or x (ErrSyntax number)) answers.told);
       stands = answers.stands;
+      settled = answers.settled;
     })
 
 -- where the reply can't be printed the line has been worked on
-pub ends_after : {D K : Type 0} (files : D → Option Files) (held : K → Option Held) (session : Session D K) (number : ℕ) (o : Option Reply) (before : State) (out : Outcome) (d : Step) → d ≡ told number out → Answers files held session o out → EndsAt files held session.store before.list d.state.list
-ends_after files held session number o before out d e answers =
-    inr (kept files held session.store d.state.list (subst (λ (x : Step). Holds files held session.store x.state.list) (sym e) answers.stands.list))
+pub ends_after : {D K : Type 0} (disk : DiskGhosts D) (keeper : KeeperGhosts K) (session : Session D K) (number : ℕ) (o : Option Reply) (before : State) (out : Outcome) (d : Effect) → d ≡ effect_of number out → Answers disk keeper session o out → EndsAt disk keeper session.store before.list d.state.list
+ends_after disk keeper session number o before out d e answers =
+    inr (kept disk keeper session.store d.state.list (subst (λ (x : Effect). Holds disk keeper session.store x.state.list) (sym e) answers.stands.list))
+
+-- where a line wasn't worked on, if there was one
+pub ends_before : {D K : Type 0} (disk : DiskGhosts D) (keeper : KeeperGhosts K) (store : Store D K) (list : ChangeList) (o : Option Piece) (after : Piece → ChangeList) → Holds disk keeper store list → IfSome o (λ p. EndsAt disk keeper store list (after p))
+ends_before disk keeper store list None after holds = tt
+ends_before disk keeper store list (Some p) after holds = inl (kept disk keeper store list holds)
 
 pub no_bytes : (b : Bool) (line : List ℕ) → b ≡ (length line == 0) → b ≡ true → line ≡ []
 no_bytes b [] e h = refl

@@ -4,24 +4,24 @@ use Rattle.std.proofs.lemmas.List.{drop_more}
 use Rattle.std.proofs.lemmas.Option.{slice_get-get_or}
 use Rattle.plain_state.proofs.StoreLaws.{content_of-append}
 use Rattle.agg_session.specs.declared.link.Transaction.{Transaction}
-use Rattle.agg_session.specs.Links.{open_of, others, IsPlaceOf}
+use Rattle.agg_session.specs.Links.{open_of, transactions_without, IsPlaceOf}
 
 pub ruleset appending = (content_of-append)
 
 open_of-first : (number : ℕ) (t : Transaction) (ts : List Transaction) → t.number ≡ number → open_of number (t ∷ ts) ≡ Some t
 open_of-first number t ts e = rw (eq-eqb t.number number e)
 
-others-first : (number : ℕ) (t : Transaction) (ts : List Transaction) → t.number ≡ number → others number (t ∷ ts) ≡ ts
+others-first : (number : ℕ) (t : Transaction) (ts : List Transaction) → t.number ≡ number → transactions_without number (t ∷ ts) ≡ ts
 others-first number t ts e = rw (eq-eqb t.number number e)
 
 -- the first of this number stands where all before it are passed over
-pub is_place_of : (number i : ℕ) (ts : List Transaction) (d : Transaction) → i < length ts → (get_or ts i d).number ≡ number → open_of number (drop i ts) ≡ open_of number ts → take i ts ++ others number (drop i ts) ≡ others number ts → IsPlaceOf number ts i
+pub is_place_of : (number i : ℕ) (ts : List Transaction) (d : Transaction) → i < length ts → (get_or ts i d).number ≡ number → open_of number (drop i ts) ≡ open_of number ts → take i ts ++ transactions_without number (drop i ts) ≡ transactions_without number ts → IsPlaceOf number ts i
 is_place_of number i ts d within here skipped kept =
     let split = drop_more ts i d within in
     let found : open_of number ts ≡ Some (get_or ts i d) =
     sym skipped ∙ ap (open_of number) split ∙ open_of-first number (get_or ts i d) (drop (i + 1) ts) here in
-    let left : others number ts ≡ take i ts ++ drop (i + 1) ts =
-    sym kept ∙ ap (λ (xs : List Transaction). take i ts ++ others number xs) split ∙ ap (λ (xs : List Transaction). take i ts ++ xs) (others-first number (get_or ts i d) (drop (i + 1) ts) here) in
+    let left : transactions_without number ts ≡ take i ts ++ drop (i + 1) ts =
+    sym kept ∙ ap (λ (xs : List Transaction). take i ts ++ transactions_without number xs) split ∙ ap (λ (xs : List Transaction). take i ts ++ xs) (others-first number (get_or ts i d) (drop (i + 1) ts) here) in
     record {
       within = within;
       there = rw (slice_get-get_or ts i d within) found;

@@ -9,8 +9,8 @@ use Rattle.std.proofs.lemmas.Bool.{ltb-false}
 use Rattle.std.specs.List.{position_or_len}
 use Rattle.std.specs.List.{position}
 use Rattle.std.specs.Option.{ForSome, option_to_list}
-use Rattle.agg_outside.specs.Files.{Files}
-use Rattle.agg_outside.specs.Rows.{Held}
+use Rattle.agg_outside.specs.declared.disk.Disk.{Ghosts as DiskGhosts}
+use Rattle.agg_outside.specs.declared.keeper.Keeper.{Ghosts as KeeperGhosts}
 use Rattle.line_words.specs.Lines.{lines_from}
 use Rattle.line_words.specs.LineCut.{Uncut, Piece, is_feed, piece_of, cut_at, next_cut, rest_cut, pieces_of}
 use Rattle.line_words.proofs.Pieces.{next_cut-lines, next_cut-feed, rest_cut-lines}
@@ -18,8 +18,9 @@ use Rattle.agg_session.specs.declared.limits.Limits.{Limits}
 use Rattle.agg_session.specs.declared.session.Session.{Session}
 use Rattle.agg_session.specs.declared.served.Served.{Served}
 use Rattle.agg_session.specs.State.{State}
-use Rattle.agg_session.specs.Answer.{step, replies, state_after, joined, but_last, ended_lines}
-use Rattle.agg_session.specs.Running.{Stands, Steps}
+use Rattle.agg_session.specs.Answer.{effect, replies, state_after, AreSettled, joined, but_last, ended_lines}
+use Rattle.agg_session.specs.Running.{Stands, HasEffect}
+use Rattle.plain_state.specs.Store.{steps_held}
 use Rattle.agg_session.specs.Served.{IsServed, IsAnswered, HasAnswered}
 
 pub whole_rest : (n : ℕ) (xs : List ℕ) → take (length xs - n) (drop n xs) ≡ drop n xs
@@ -99,26 +100,47 @@ joined-append (t ∷ texts) text = ap (λ rest. t ++ rest) (joined-append texts 
 next_number : (n count : ℕ) → n + suc count ≡ (n + 1) + count
 next_number n count = omega arith
 
-state_after-one : (limits : Limits) (n : ℕ) (lines : List Piece) (p : Piece) (s : State) → state_after limits n (lines ++ p ∷ []) s ≡ (step limits (n + length lines) p (state_after limits n lines s)).state
-state_after-one limits n [] p s = ap (λ k. (step limits k p s).state) (plus_none n)
+state_after-one : (limits : Limits) (n : ℕ) (lines : List Piece) (p : Piece) (s : State) → state_after limits n (lines ++ p ∷ []) s ≡ (effect limits (n + length lines) p (state_after limits n lines s)).state
+state_after-one limits n [] p s = ap (λ k. (effect limits k p s).state) (plus_none n)
   where
     plus_none : (k : ℕ) → k ≡ k + 0
     plus_none k = omega arith
 state_after-one limits n (q ∷ lines) p s =
-    let d : State = (step limits n q s).state in
+    let d : State = (effect limits n q s).state in
     state_after-one limits (n + 1) lines p d
-    ∙ ap (λ k. (step limits k p (state_after limits (n + 1) lines d)).state) (sym (next_number n (length lines)))
+    ∙ ap (λ k. (effect limits k p (state_after limits (n + 1) lines d)).state) (sym (next_number n (length lines)))
 
-replies-one : (limits : Limits) (n : ℕ) (lines : List Piece) (p : Piece) (s : State) → replies limits n (lines ++ p ∷ []) s ≡ replies limits n lines s ++ (step limits (n + length lines) p (state_after limits n lines s)).reply ∷ []
-replies-one limits n [] p s = ap (λ k. (step limits k p s).reply ∷ []) (plus_none n)
+replies-one : (limits : Limits) (n : ℕ) (lines : List Piece) (p : Piece) (s : State) → replies limits n (lines ++ p ∷ []) s ≡ replies limits n lines s ++ (effect limits (n + length lines) p (state_after limits n lines s)).reply ∷ []
+replies-one limits n [] p s = ap (λ k. (effect limits k p s).reply ∷ []) (plus_none n)
   where
     plus_none : (k : ℕ) → k ≡ k + 0
     plus_none k = omega arith
 replies-one limits n (q ∷ lines) p s =
-    let d : State = (step limits n q s).state in
-    ap (λ (rs : List (List ℕ)). (step limits n q s).reply ∷ rs)
+    let d : State = (effect limits n q s).state in
+    ap (λ (rs : List (List ℕ)). (effect limits n q s).reply ∷ rs)
     (replies-one limits (n + 1) lines p d
-    ∙ ap (λ k. replies limits (n + 1) lines d ++ (step limits k p (state_after limits (n + 1) lines d)).reply ∷ []) (sym (next_number n (length lines))))
+    ∙ ap (λ k. replies limits (n + 1) lines d ++ (effect limits k p (state_after limits (n + 1) lines d)).reply ∷ []) (sym (next_number n (length lines))))
+
+-- what lines say of steps holds while more are in files
+pub settled-more : (limits : Limits) (n : ℕ) (lines : List Piece) (s : State) (few many : ℕ) → few ≤ many → AreSettled limits n lines s few → AreSettled limits n lines s many
+settled-more limits n [] s few many more all = tt
+settled-more limits n (p ∷ lines) s few many more all =
+    (up all.0 more, settled-more limits (n + 1) lines (effect limits n p s).state few many more all.1)
+  where
+    up : {a b c : ℕ} → a ≤ b → b ≤ c → a ≤ c
+    up h g = omega arith
+
+settled-one : (limits : Limits) (n : ℕ) (lines : List Piece) (p : Piece) (s : State) (steps : ℕ) → AreSettled limits n lines s steps → (effect limits (n + length lines) p (state_after limits n lines s)).settled ≤ steps → AreSettled limits n (lines ++ p ∷ []) s steps
+settled-one limits n [] p s steps all one = (subst (λ k. (effect limits k p s).settled ≤ steps) (no_more n) one, tt)
+  where
+    no_more : (k : ℕ) → k + 0 ≡ k
+    no_more k = omega arith
+settled-one limits n (q ∷ lines) p s steps all one =
+    let d : State = (effect limits n q s).state in (
+      all.0,
+      settled-one limits (n + 1) lines p d steps all.1
+          (subst (λ k. (effect limits k p (state_after limits (n + 1) lines d)).settled ≤ steps) (next_number n (length lines)) one),
+    )
 
 -- ---- the lines that have their line feed
 
@@ -177,14 +199,17 @@ left_less limit cut new p is cut_is some later =
 -- ---- what is answered
 
 -- one more line is answered, and its reply written
-module _ {D K : Type 0} (files : D → Option Files) (held : K → Option Held) (limits : Limits) (session after : Session D K) (first out now : Option (List ℕ)) (start : State) (lines : List Piece) (p : Piece) (number : ℕ) (reply : List ℕ) where
-  pub answered_one : number ≡ length lines → (all : HasAnswered files held limits session first out start lines) → Steps files held after reply (step limits (number + 1) p (state_after limits 1 lines start)) → ForSome out (λ b. now ≡ Some (b ++ reply)) → HasAnswered files held limits after first now start (lines ++ p ∷ [])
-  answered_one count all steps put =
+module _ {D K : Type 0} (disk : DiskGhosts D) (keeper : KeeperGhosts K) (limits : Limits) (session after : Session D K) (first out now : Option (List ℕ)) (start : State) (lines : List Piece) (p : Piece) (number : ℕ) (reply : List ℕ) where
+  pub answered_one : number ≡ length lines → steps_held session.store ≤ steps_held after.store → (all : HasAnswered disk keeper limits session first out start lines) → HasEffect disk keeper after reply (effect limits (number + 1) p (state_after limits 1 lines start)) → ForSome out (λ b. now ≡ Some (b ++ reply)) → HasAnswered disk keeper limits after first now start (lines ++ p ∷ [])
+  answered_one count more all steps put =
       let s : State = state_after limits 1 lines start in
       let at : number + 1 ≡ 1 + length lines = omega (arith, count) in
-      let told : reply ≡ (step limits (1 + length lines) p s).reply = steps.told ∙ ap (λ n. (step limits n p s).reply) at in
+      let told : reply ≡ (effect limits (1 + length lines) p s).reply = steps.told ∙ ap (λ n. (effect limits n p s).reply) at in
       record {
-        stands = subst (Stands files held after) (ap (λ n. (step limits n p s).state) at ∙ sym (state_after-one limits 1 lines p start)) steps.stands;
+        settled = settled-one limits 1 lines p start (steps_held after.store)
+            (settled-more limits 1 lines start (steps_held session.store) (steps_held after.store) more all.settled)
+            (subst (λ n. (effect limits n p s).settled ≤ steps_held after.store) at steps.settled);
+        stands = subst (Stands disk keeper after) (ap (λ n. (effect limits n p s).state) at ∙ sym (state_after-one limits 1 lines p start)) steps.stands;
         written = λ before is.
             put (before ++ joined (replies limits 1 lines start)) (all.written before is)
             ∙ ap Some
@@ -196,29 +221,29 @@ module _ {D K : Type 0} (files : D → Option Files) (held : K → Option Held) 
       }
 
 -- nothing was cut off: what was answered stays so
-pub answered_same : {D K : Type 0} (files : D → Option Files) (held : K → Option Held) (limits : Limits) (old new : Served D K) (first out : Option (List ℕ)) (start : State) (text : List ℕ) → IsServed held limits old → new.cut ≡ record old.cut { left = (next_cut old.cut).1 } → (next_cut old.cut).0 ≡ None → new.session ≡ old.session → new.lines ≡ old.lines → IsAnswered files held limits old first out start text → IsAnswered files held limits new first out start text
-answered_same files held limits old new first out start text served cut none session lines all = record {
+pub answered_same : {D K : Type 0} (disk : DiskGhosts D) (keeper : KeeperGhosts K) (limits : Limits) (old new : Served D K) (first out : Option (List ℕ)) (start : State) (text : List ℕ) → IsServed keeper limits old → new.cut ≡ record old.cut { left = (next_cut old.cut).1 } → (next_cut old.cut).0 ≡ None → new.session ≡ old.session → new.lines ≡ old.lines → IsAnswered disk keeper limits old first out start text → IsAnswered disk keeper limits new first out start text
+answered_same disk keeper limits old new first out start text served cut none session lines all = record {
   lines = all.lines;
   cuts = λ later. all.cuts later ∙ ap (λ (ps : List Piece). all.lines ++ ps) (left_same limits.line old.cut new.cut served.limit cut none later);
   count = lines ∙ all.count;
-  all = subst (λ (s : Session _ _). HasAnswered files held limits s first out start all.lines) (sym session) all.all;
+  all = subst (λ (s : Session _ _). HasAnswered disk keeper limits s first out start all.lines) (sym session) all.all;
 }
 
-answered_more-by : {D K : Type 0} (files : D → Option Files) (held : K → Option Held) (limits : Limits) (old new : Served D K) (o : Option Piece) (reply : List ℕ) (first out now : Option (List ℕ)) (start : State) (text : List ℕ) → IsServed held limits old → new.cut ≡ record old.cut { left = (next_cut old.cut).1 } → (next_cut old.cut).0 ≡ o → true ≡ is_some o → new.lines ≡ old.lines + 1 → (all : IsAnswered files held limits old first out start text) → IfSome o (λ piece. Steps files held new.session reply (step limits (old.lines + 1) piece (state_after limits 1 all.lines start))) → ForSome out (λ b. now ≡ Some (b ++ reply)) → IsAnswered files held limits new first now start text
-answered_more-by files held limits old new None reply first out now start text served cut is some lines all steps put = cc
-answered_more-by files held limits old new (Some p) reply first out now start text served cut is some lines all steps put = record {
+answered_more-by : {D K : Type 0} (disk : DiskGhosts D) (keeper : KeeperGhosts K) (limits : Limits) (old new : Served D K) (o : Option Piece) (reply : List ℕ) (first out now : Option (List ℕ)) (start : State) (text : List ℕ) → IsServed keeper limits old → new.cut ≡ record old.cut { left = (next_cut old.cut).1 } → (next_cut old.cut).0 ≡ o → true ≡ is_some o → new.lines ≡ old.lines + 1 → steps_held old.session.store ≤ steps_held new.session.store → (all : IsAnswered disk keeper limits old first out start text) → IfSome o (λ piece. HasEffect disk keeper new.session reply (effect limits (old.lines + 1) piece (state_after limits 1 all.lines start))) → ForSome out (λ b. now ≡ Some (b ++ reply)) → IsAnswered disk keeper limits new first now start text
+answered_more-by disk keeper limits old new None reply first out now start text served cut is some lines more all steps put = cc
+answered_more-by disk keeper limits old new (Some p) reply first out now start text served cut is some lines more all steps put = record {
   lines = all.lines ++ p ∷ [];
   cuts = λ later.
       all.cuts later ∙ ap (λ (ps : List Piece). all.lines ++ ps) (left_less limits.line old.cut new.cut p served.limit cut is later)
       ∙ sym (append_assoc all.lines (p ∷ []) (pieces_of limits.line (new.cut.left ++ later)));
   count = omega (arith, lines, all.count, length-append all.lines (p ∷ []));
-  all = answered_one files held limits old.session new.session first out now start all.lines p old.lines reply all.count all.all steps put;
+  all = answered_one disk keeper limits old.session new.session first out now start all.lines p old.lines reply all.count more all.all steps put;
 }
 
 -- a line was cut off and its reply written
-pub answered_more : {D K : Type 0} (files : D → Option Files) (held : K → Option Held) (limits : Limits) (old new : Served D K) (reply : List ℕ) (first out now : Option (List ℕ)) (start : State) (text : List ℕ) → IsServed held limits old → new.cut ≡ record old.cut { left = (next_cut old.cut).1 } → true ≡ is_some (next_cut old.cut).0 → new.lines ≡ old.lines + 1 → ((s : State) → Stands files held old.session s → IfSome (next_cut old.cut).0 (λ piece. Steps files held new.session reply (step limits (old.lines + 1) piece s))) → ForSome out (λ b. now ≡ Some (b ++ reply)) → IsAnswered files held limits old first out start text → IsAnswered files held limits new first now start text
-answered_more files held limits old new reply first out now start text served cut some lines exact put all =
-    answered_more-by files held limits old new (next_cut old.cut).0 reply first out now start text served cut refl some lines all (exact (state_after limits 1 all.lines start) all.all.stands) put
+pub answered_more : {D K : Type 0} (disk : DiskGhosts D) (keeper : KeeperGhosts K) (limits : Limits) (old new : Served D K) (reply : List ℕ) (first out now : Option (List ℕ)) (start : State) (text : List ℕ) → IsServed keeper limits old → new.cut ≡ record old.cut { left = (next_cut old.cut).1 } → true ≡ is_some (next_cut old.cut).0 → new.lines ≡ old.lines + 1 → steps_held old.session.store ≤ steps_held new.session.store → ((s : State) → Stands disk keeper old.session s → IfSome (next_cut old.cut).0 (λ piece. HasEffect disk keeper new.session reply (effect limits (old.lines + 1) piece s))) → ForSome out (λ b. now ≡ Some (b ++ reply)) → IsAnswered disk keeper limits old first out start text → IsAnswered disk keeper limits new first now start text
+answered_more disk keeper limits old new reply first out now start text served cut some lines more exact put all =
+    answered_more-by disk keeper limits old new (next_cut old.cut).0 reply first out now start text served cut refl some lines more all (exact (state_after limits 1 all.lines start) all.all.stands) put
 
 pub none_there : {A : Type 0} (o : Option A) → false ≡ is_some o → o ≡ None
 none_there None e = refl
@@ -234,8 +259,8 @@ if_some (Some y) P x e h = let same : y ≡ x = cc in subst P same h
 
 -- ---- a piece that came
 
-pub answered_pushed : {D K : Type 0} (files : D → Option Files) (held : K → Option Held) (limits : Limits) (old new : Served D K) (piece : List ℕ) (first out : Option (List ℕ)) (start : State) (text : List ℕ) → new.cut ≡ record old.cut { left = old.cut.left ++ piece } → new.session ≡ old.session → new.lines ≡ old.lines → IsAnswered files held limits old first out start text → IsAnswered files held limits new first out start (text ++ piece)
-answered_pushed files held limits old new piece first out start text cut session lines all =
+pub answered_pushed : {D K : Type 0} (disk : DiskGhosts D) (keeper : KeeperGhosts K) (limits : Limits) (old new : Served D K) (piece : List ℕ) (first out : Option (List ℕ)) (start : State) (text : List ℕ) → new.cut ≡ record old.cut { left = old.cut.left ++ piece } → new.session ≡ old.session → new.lines ≡ old.lines → IsAnswered disk keeper limits old first out start text → IsAnswered disk keeper limits new first out start (text ++ piece)
+answered_pushed disk keeper limits old new piece first out start text cut session lines all =
     let left : new.cut.left ≡ old.cut.left ++ piece = ap (λ (u : Uncut). u.left) cut in
     let grown : (later : List ℕ) → old.cut.left ++ (piece ++ later) ≡ new.cut.left ++ later = λ later.
     sym (append_assoc old.cut.left piece later) ∙ ap (λ l. l ++ later) (sym left) in
@@ -245,7 +270,7 @@ answered_pushed files held limits old new piece first out start text cut session
           ap (pieces_of limits.line) (append_assoc text piece later) ∙ all.cuts (piece ++ later)
           ∙ ap (λ t. all.lines ++ pieces_of limits.line t) (grown later);
       count = lines ∙ all.count;
-      all = subst (λ (s : Session _ _). HasAnswered files held limits s first out start all.lines) (sym session) all.all;
+      all = subst (λ (s : Session _ _). HasAnswered disk keeper limits s first out start all.lines) (sym session) all.all;
     }
 
 -- ---- the last line
@@ -259,24 +284,24 @@ pub last_piece : (limit : ℕ) (cut : Uncut) (o : Option Piece) → cut.limit �
 last_piece limit cut o is none rest =
     subst (λ n. pieces_of n cut.left ≡ option_to_list o) is (rest_cut-lines cut none ∙ ap option_to_list rest)
 
-pub finished_same : {D K : Type 0} (files : D → Option Files) (held : K → Option Held) (limits : Limits) (old : Served D K) (session : Session D K) (first out : Option (List ℕ)) (start : State) (text : List ℕ) → IsServed held limits old → (next_cut old.cut).0 ≡ None → false ≡ is_some (rest_cut old.cut) → session ≡ old.session → IsAnswered files held limits old first out start text → HasAnswered files held limits session first out start (pieces_of limits.line text)
-finished_same files held limits old session first out start text served none rest is all =
+pub finished_same : {D K : Type 0} (disk : DiskGhosts D) (keeper : KeeperGhosts K) (limits : Limits) (old : Served D K) (session : Session D K) (first out : Option (List ℕ)) (start : State) (text : List ℕ) → IsServed keeper limits old → (next_cut old.cut).0 ≡ None → false ≡ is_some (rest_cut old.cut) → session ≡ old.session → IsAnswered disk keeper limits old first out start text → HasAnswered disk keeper limits session first out start (pieces_of limits.line text)
+finished_same disk keeper limits old session first out start text served none rest is all =
     let whole : pieces_of limits.line text ≡ all.lines =
     whole_text limits.line text old.cut.left all.lines all.cuts
     ∙ ap (λ (ps : List Piece). all.lines ++ ps) (last_piece limits.line old.cut None served.limit none (none_there (rest_cut old.cut) rest))
     ∙ append-nil all.lines in
-    subst (λ (ps : List Piece). HasAnswered files held limits session first out start ps) (sym whole)
-    (subst (λ (s : Session _ _). HasAnswered files held limits s first out start all.lines) (sym is) all.all)
+    subst (λ (ps : List Piece). HasAnswered disk keeper limits session first out start ps) (sym whole)
+    (subst (λ (s : Session _ _). HasAnswered disk keeper limits s first out start all.lines) (sym is) all.all)
 
-finished_more-by : {D K : Type 0} (files : D → Option Files) (held : K → Option Held) (limits : Limits) (old : Served D K) (session : Session D K) (o : Option Piece) (reply : List ℕ) (first out now : Option (List ℕ)) (start : State) (text : List ℕ) → IsServed held limits old → (next_cut old.cut).0 ≡ None → rest_cut old.cut ≡ o → true ≡ is_some o → (all : IsAnswered files held limits old first out start text) → IfSome o (λ piece. Steps files held session reply (step limits (old.lines + 1) piece (state_after limits 1 all.lines start))) → ForSome out (λ b. now ≡ Some (b ++ reply)) → HasAnswered files held limits session first now start (pieces_of limits.line text)
-finished_more-by files held limits old session None reply first out now start text served none is some all steps put = cc
-finished_more-by files held limits old session (Some p) reply first out now start text served none is some all steps put =
+finished_more-by : {D K : Type 0} (disk : DiskGhosts D) (keeper : KeeperGhosts K) (limits : Limits) (old : Served D K) (session : Session D K) (o : Option Piece) (reply : List ℕ) (first out now : Option (List ℕ)) (start : State) (text : List ℕ) → IsServed keeper limits old → (next_cut old.cut).0 ≡ None → rest_cut old.cut ≡ o → true ≡ is_some o → steps_held old.session.store ≤ steps_held session.store → (all : IsAnswered disk keeper limits old first out start text) → IfSome o (λ piece. HasEffect disk keeper session reply (effect limits (old.lines + 1) piece (state_after limits 1 all.lines start))) → ForSome out (λ b. now ≡ Some (b ++ reply)) → HasAnswered disk keeper limits session first now start (pieces_of limits.line text)
+finished_more-by disk keeper limits old session None reply first out now start text served none is some more all steps put = cc
+finished_more-by disk keeper limits old session (Some p) reply first out now start text served none is some more all steps put =
     let whole : pieces_of limits.line text ≡ all.lines ++ p ∷ [] =
     whole_text limits.line text old.cut.left all.lines all.cuts
     ∙ ap (λ (ps : List Piece). all.lines ++ ps) (last_piece limits.line old.cut (Some p) served.limit none is) in
-    subst (λ (ps : List Piece). HasAnswered files held limits session first now start ps) (sym whole)
-    (answered_one files held limits old.session session first out now start all.lines p old.lines reply all.count all.all steps put)
+    subst (λ (ps : List Piece). HasAnswered disk keeper limits session first now start ps) (sym whole)
+    (answered_one disk keeper limits old.session session first out now start all.lines p old.lines reply all.count more all.all steps put)
 
-pub finished_more : {D K : Type 0} (files : D → Option Files) (held : K → Option Held) (limits : Limits) (old : Served D K) (session : Session D K) (reply : List ℕ) (first out now : Option (List ℕ)) (start : State) (text : List ℕ) → IsServed held limits old → (next_cut old.cut).0 ≡ None → true ≡ is_some (rest_cut old.cut) → ((s : State) → Stands files held old.session s → IfSome (rest_cut old.cut) (λ piece. Steps files held session reply (step limits (old.lines + 1) piece s))) → ForSome out (λ b. now ≡ Some (b ++ reply)) → IsAnswered files held limits old first out start text → HasAnswered files held limits session first now start (pieces_of limits.line text)
-finished_more files held limits old session reply first out now start text served none some exact put all =
-    finished_more-by files held limits old session (rest_cut old.cut) reply first out now start text served none refl some all (exact (state_after limits 1 all.lines start) all.all.stands) put
+pub finished_more : {D K : Type 0} (disk : DiskGhosts D) (keeper : KeeperGhosts K) (limits : Limits) (old : Served D K) (session : Session D K) (reply : List ℕ) (first out now : Option (List ℕ)) (start : State) (text : List ℕ) → IsServed keeper limits old → (next_cut old.cut).0 ≡ None → true ≡ is_some (rest_cut old.cut) → steps_held old.session.store ≤ steps_held session.store → ((s : State) → Stands disk keeper old.session s → IfSome (rest_cut old.cut) (λ piece. HasEffect disk keeper session reply (effect limits (old.lines + 1) piece s))) → ForSome out (λ b. now ≡ Some (b ++ reply)) → IsAnswered disk keeper limits old first out start text → HasAnswered disk keeper limits session first now start (pieces_of limits.line text)
+finished_more disk keeper limits old session reply first out now start text served none some more exact put all =
+    finished_more-by disk keeper limits old session (rest_cut old.cut) reply first out now start text served none refl some more all (exact (state_after limits 1 all.lines start) all.all.stands) put

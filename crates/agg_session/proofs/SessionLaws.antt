@@ -1,91 +1,97 @@
 -- Laws of a running session and the state that it stands for.
-use Rattle.std.proofs.Common.{◌≡◌, ℕ, ◌+◌, ◌*◌, ◌/◌, ◌<◌, ◌≤◌, Bool, true, false, ◌==◌, ◌&&◌, List, [], ◌∷◌, ◌++◌, map, length, All, Option, Some, None, IfSome, is_some, nat_lt, nat_le, get_or, unwrap_or, cond, refl, ap, subst, sym, ◌∙◌, arith}
+use Rattle.std.proofs.Common.{◌≡◌, ℕ, ◌+◌, ◌*◌, ◌/◌, ◌<◌, ◌≤◌, Bool, true, false, ◌==◌, ◌&&◌, List, [], ◌∷◌, ◌++◌, map, length, All, Option, Some, None, IfSome, is_some, nat_lt, nat_le, get_or, unwrap_or, cond, Result, Ok, Err, refl, ap, subst, sym, ◌∙◌, arith}
 use Rattle.std.specs.Option.{option_map}
+use Rattle.plain_state.specs.declared.stop.Stop.TheVariants as stops
 use Rattle.std.specs.Bool.{OnTrue}
 use Rattle.std.proofs.lemmas.List.{length-map, map-append}
 use Rattle.std.proofs.lemmas.List.Elements.{All-cons, All-head, All-tail, All-nil, All-append}
-use Rattle.agg_outside.specs.Files.{Files}
-use Rattle.agg_outside.specs.Rows.{Held}
+use Rattle.agg_outside.specs.declared.disk.Disk.{Ghosts as DiskGhosts}
+use Rattle.agg_outside.specs.declared.keeper.Keeper.{Ghosts as KeeperGhosts}
 use Rattle.agg_model.specs.declared.entity.Entity.{Entity}
 use Rattle.agg_model.specs.declared.change.Change.{Change}
 use Rattle.agg_model.specs.Batch.{AscendFrom, IsBatch, IsChange, content_of}
-use Rattle.agg_model.specs.ChangeList.{ChangeList, latest, value_at, next_of, grown}
+use Rattle.agg_model.specs.ChangeList.{ChangeList, latest, value_at, next_of, grown, may_grow, begins_from}
 use Rattle.agg_model.specs.Merged.{merged}
-use Rattle.agg_model.specs.GrownLaws.{AscendFrom-All, next_of-above, value_at-later}
+use Rattle.agg_model.proofs.GrownLaws.{AscendFrom-All, next_of-above, value_at-later}
 use Rattle.plain_state.specs.declared.store.Accepted.{Accepted}
 use Rattle.plain_state.proofs.StoreLaws.{next_batch, kept}
 use Rattle.std.proofs.lemmas.Bool.{leb-true}
 use Rattle.agg_session.specs.declared.limits.Limits.{Limits}
 use Rattle.agg_session.specs.declared.link.Link.{Link}
 use Rattle.agg_session.specs.declared.link.Transaction.{Transaction}
-use Rattle.agg_session.specs.Links.{open_of, others, Opened, opened_as, opened_of, HasFiles, IsLink, LinkStands}
+use Rattle.agg_session.specs.Links.{open_of, transactions_without, Opened, opened_as, opened_of, IsLink, LinkStands}
 use Rattle.plain_state.specs.declared.store.Store.{Store}
 use Rattle.agg_session.specs.declared.session.Session.{Session}
-use Rattle.plain_state.specs.Store.{IsStore, Holds, Keeps, Commits, may_grow, begins_from}
-use Rattle.agg_session.specs.Running.{IsSession, IsView, Stands, Answers}
-use Rattle.agg_session.specs.State.{State, Opening, settle_on, list_at, without, value_reply, close_on, latest_on, open_on, commit_on, may_commit}
+use Rattle.plain_state.specs.Store.{IsStore, Holds, Keeps, HasView, Commits, Goes, HasCauses, steps_held, view_of}
+use Rattle.plain_state.specs.declared.view.View.{View}
+use Rattle.plain_state.specs.declared.stop.Stop.{Stop}
+use Rattle.plain_state.specs.Canonical.{held_names}
+use Rattle.plain_state.specs.Reading.{Reads}
+use Rattle.plain_state.proofs.GoingLaws.{view-later, goes-refl}
+use Rattle.agg_core.specs.Names.{complete_steps, written_names}
+use Rattle.agg_session.specs.Running.{IsSession, IsView, Stands, Answers, KeepsDevices}
+use Rattle.agg_session.specs.State.{State, Opening, settle_on, list_at, openings_without, value_reply, close_on, latest_on, open_on, commit_on, may_commit}
 use Rattle.line_words.specs.declared.reply.Reply.TheVariants as says
 use Rattle.merge_ranges.specs.Name.{spelled}
-use Rattle.plain_state.specs.Canonical.{step_names}
 
 -- ---- open transactions, as the link has them
 
 -- below which number the transaction reads, where it is open
-abbrev at_in : ℕ → List Opened → Option ℕ
-at_in number [] = None
-at_in number (o ∷ os) = cond (o.number == number) (Some o.at) (at_in number os)
+abbrev next_in : ℕ → List Opened → Option ℕ
+next_in number [] = None
+next_in number (o ∷ os) = cond (o.number == number) (Some o.next) (next_in number os)
 
 abbrev others_in : ℕ → List Opened → List Opened
 others_in number [] = []
 others_in number (o ∷ os) = cond (o.number == number) os (o ∷ others_in number os)
 
-at_in-opened-by : (here : Bool) (o : Opening) (rest : Option ChangeList) → cond here (Some o.list.next) (option_map (λ (l : ChangeList). l.next) rest) ≡ option_map (λ (l : ChangeList). l.next) (cond here (Some o.list) rest)
-at_in-opened-by true o rest = refl
-at_in-opened-by false o rest = refl
+next_in-opened-by : (here : Bool) (o : Opening) (rest : Option ChangeList) → cond here (Some o.list.next) (option_map (λ (l : ChangeList). l.next) rest) ≡ option_map (λ (l : ChangeList). l.next) (cond here (Some o.list) rest)
+next_in-opened-by true o rest = refl
+next_in-opened-by false o rest = refl
 
-at_in-opened : (t : ℕ) (os : List Opening) → at_in t (map opened_of os) ≡ option_map (λ (l : ChangeList). l.next) (list_at t os)
-at_in-opened t [] = refl
-at_in-opened t (o ∷ os) = rw (at_in-opened t os) (at_in-opened-by (o.number == t) o (list_at t os))
+next_in-opened : (t : ℕ) (os : List Opening) → next_in t (map opened_of os) ≡ option_map (λ (l : ChangeList). l.next) (list_at t os)
+next_in-opened t [] = refl
+next_in-opened t (o ∷ os) = rw (next_in-opened t os) (next_in-opened-by (o.number == t) o (list_at t os))
 
-at_in-as-by : (here : Bool) (x : Transaction) (rest : Option Transaction) → cond here (Some x.at) (option_map (λ (t : Transaction). t.at) rest) ≡ option_map (λ (t : Transaction). t.at) (cond here (Some x) rest)
-at_in-as-by true x rest = refl
-at_in-as-by false x rest = refl
+next_in-as-by : (here : Bool) (x : Transaction) (rest : Option Transaction) → cond here (Some x.view.next) (option_map (λ (t : Transaction). t.view.next) rest) ≡ option_map (λ (t : Transaction). t.view.next) (cond here (Some x) rest)
+next_in-as-by true x rest = refl
+next_in-as-by false x rest = refl
 
-at_in-as : (t : ℕ) (xs : List Transaction) → at_in t (map opened_as xs) ≡ option_map (λ (x : Transaction). x.at) (open_of t xs)
-at_in-as t [] = refl
-at_in-as t (x ∷ xs) = rw (at_in-as t xs) (at_in-as-by (x.number == t) x (open_of t xs))
+next_in-as : (t : ℕ) (xs : List Transaction) → next_in t (map opened_as xs) ≡ option_map (λ (x : Transaction). x.view.next) (open_of t xs)
+next_in-as t [] = refl
+next_in-as t (x ∷ xs) = rw (next_in-as t xs) (next_in-as-by (x.number == t) x (open_of t xs))
 
 -- a link and the openings that it stands for tell the same number
-same_at : (t : ℕ) (xs : List Transaction) (os : List Opening) → map opened_as xs ≡ map opened_of os → option_map (λ (x : Transaction). x.at) (open_of t xs) ≡ option_map (λ (l : ChangeList). l.next) (list_at t os)
-same_at t xs os same = sym (at_in-as t xs) ∙ ap (at_in t) same ∙ at_in-opened t os
+same_next : (t : ℕ) (xs : List Transaction) (os : List Opening) → map opened_as xs ≡ map opened_of os → option_map (λ (x : Transaction). x.view.next) (open_of t xs) ≡ option_map (λ (l : ChangeList). l.next) (list_at t os)
+same_next t xs os same = sym (next_in-as t xs) ∙ ap (next_in t) same ∙ next_in-opened t os
 
 others_in-opened-by : (here : Bool) (o : Opening) (os rest : List Opening) → cond here (map opened_of os) (opened_of o ∷ map opened_of rest) ≡ map opened_of (cond here os (o ∷ rest))
 others_in-opened-by true o os rest = refl
 others_in-opened-by false o os rest = refl
 
-others_in-opened : (t : ℕ) (os : List Opening) → others_in t (map opened_of os) ≡ map opened_of (without t os)
+others_in-opened : (t : ℕ) (os : List Opening) → others_in t (map opened_of os) ≡ map opened_of (openings_without t os)
 others_in-opened t [] = refl
-others_in-opened t (o ∷ os) = rw (others_in-opened t os) (others_in-opened-by (o.number == t) o os (without t os))
+others_in-opened t (o ∷ os) = rw (others_in-opened t os) (others_in-opened-by (o.number == t) o os (openings_without t os))
 
 others_in-as-by : (here : Bool) (x : Transaction) (xs rest : List Transaction) → cond here (map opened_as xs) (opened_as x ∷ map opened_as rest) ≡ map opened_as (cond here xs (x ∷ rest))
 others_in-as-by true x xs rest = refl
 others_in-as-by false x xs rest = refl
 
-others_in-as : (t : ℕ) (xs : List Transaction) → others_in t (map opened_as xs) ≡ map opened_as (others t xs)
+others_in-as : (t : ℕ) (xs : List Transaction) → others_in t (map opened_as xs) ≡ map opened_as (transactions_without t xs)
 others_in-as t [] = refl
-others_in-as t (x ∷ xs) = rw (others_in-as t xs) (others_in-as-by (x.number == t) x xs (others t xs))
+others_in-as t (x ∷ xs) = rw (others_in-as t xs) (others_in-as-by (x.number == t) x xs (transactions_without t xs))
 
-same_others : (t : ℕ) (xs : List Transaction) (os : List Opening) → map opened_as xs ≡ map opened_of os → map opened_as (others t xs) ≡ map opened_of (without t os)
+same_others : (t : ℕ) (xs : List Transaction) (os : List Opening) → map opened_as xs ≡ map opened_of os → map opened_as (transactions_without t xs) ≡ map opened_of (openings_without t os)
 same_others t xs os same = sym (others_in-as t xs) ∙ ap (others_in t) same ∙ others_in-opened t os
 
 All-others-by : (P : Transaction → Type 0) (here : Bool) (x : Transaction) (xs rest : List Transaction) → P x → All P xs → All P rest → All P (cond here xs (x ∷ rest))
 All-others-by P true x xs rest first all left = all
 All-others-by P false x xs rest first all left = All-cons P x rest first left
 
-pub All-others : (P : Transaction → Type 0) (t : ℕ) (xs : List Transaction) → All P xs → All P (others t xs)
+pub All-others : (P : Transaction → Type 0) (t : ℕ) (xs : List Transaction) → All P xs → All P (transactions_without t xs)
 All-others P t [] all = all
 All-others P t (x ∷ xs) all =
-    All-others-by P (x.number == t) x xs (others t xs) (All-head P x xs all) (All-tail P x xs all) (All-others P t xs (All-tail P x xs all))
+    All-others-by P (x.number == t) x xs (transactions_without t xs) (All-head P x xs all) (All-tail P x xs all) (All-others P t xs (All-tail P x xs all))
 
 -- what holds of all that are open holds of one
 pub open_of-All : (P : Transaction → Type 0) (t : ℕ) (xs : List Transaction) (x : Transaction) → Some x ≡ open_of t xs → All P xs → P x
@@ -96,6 +102,10 @@ open_of-All P t (y ∷ ys) x e all =
       | false ↦ λ later. open_of-All P t ys x later (All-tail P y ys all)
     ] e
 
+pub open_of-has : (P : Transaction → Type 0) (t : ℕ) (xs : List Transaction) (o : Option Transaction) → o ≡ open_of t xs → All P xs → IfSome o P
+open_of-has P t xs None e all = tt
+open_of-has P t xs (Some x) e all = open_of-All P t xs x e all
+
 is_some-map : {A B : Type 0} (f : A → B) (o : Option A) → is_some o ≡ is_some (option_map f o)
 is_some-map f None = refl
 is_some-map f (Some x) = refl
@@ -104,10 +114,10 @@ All-without-by : (P : Opening → Type 0) (here : Bool) (o : Opening) (os rest :
 All-without-by P true o os rest first all left = all
 All-without-by P false o os rest first all left = All-cons P o rest first left
 
-pub All-without : (P : Opening → Type 0) (t : ℕ) (os : List Opening) → All P os → All P (without t os)
+pub All-without : (P : Opening → Type 0) (t : ℕ) (os : List Opening) → All P os → All P (openings_without t os)
 All-without P t [] all = all
 All-without P t (o ∷ os) all =
-    All-without-by P (o.number == t) o os (without t os) (All-head P o os all) (All-tail P o os all) (All-without P t os (All-tail P o os all))
+    All-without-by P (o.number == t) o os (openings_without t os) (All-head P o os all) (All-tail P o os all) (All-without P t os (All-tail P o os all))
 
 -- the view of an open transaction
 pub view_at : (P : Opening → Type 0) (Q : ChangeList → Type 0) (t : ℕ) (os : List Opening) (list : ChangeList) → ((o : Opening) → P o → Q o.list) → All P os → list_at t os ≡ Some list → Q list
@@ -118,48 +128,49 @@ view_at P Q t (o ∷ os) list gives all e =
       | false ↦ λ later. view_at P Q t os list gives (All-tail P o os all) later
     ] e
 
--- ---- a keeper that was only read
+-- ---- the devices
 
-pub holds_same : {D K : Type 0} (files : D → Option Files) (held : K → Option Held) (old new : Store D K) (list : ChangeList) → new ≡ record old { keeper = new.keeper } → held new.keeper ≡ held old.keeper → Holds files held old list → Holds files held new list
-holds_same files held old new list same rows holds =
-    let kept : new.files ≡ old.files = ap (λ (s : Store _ _). s.files) same in
-    record {
-      valid = holds.valid;
-      rows = rows ∙ holds.rows;
-      next = ap (λ (s : Store _ _). s.next) same ∙ holds.next;
-      content = ap (λ (s : Store _ _). s.content) same ∙ holds.content;
-      size = ap (λ (s : Store _ _). s.size) same ∙ holds.size;
-      complete = rw kept holds.complete;
-      read = rw kept holds.read;
-      disk = λ f told. rw kept (holds.disk f (sym (ap (λ (s : Store _ _). files s.disk) same) ∙ told));
-    }
+-- a call that doesn't touch them
+pub untouched : {T D K : Type 0} (disk : DiskGhosts D) (keeper : KeeperGhosts K) (old new : Store D K) (result : Result T Stop) → new ≡ old → HasCauses disk keeper old old result → KeepsDevices disk keeper old new result
+untouched disk keeper old new result same never =
+    subst (λ (x : Store _ _). KeepsDevices disk keeper old x result) (sym same) (record { goes = goes-refl disk keeper old; causes = never })
 
-pub keeps_same : {D K : Type 0} (files : D → Option Files) (held : K → Option Held) (old new : Store D K) (list : ChangeList) → new ≡ record old { keeper = new.keeper } → held new.keeper ≡ held old.keeper → Holds files held old list → Keeps files held new list
-keeps_same files held old new list same rows holds = kept files held new list (holds_same files held old new list same rows holds)
+-- a call that blames as the one below it does
+pub passed_on : {T S D K : Type 0} (disk : DiskGhosts D) (keeper : KeeperGhosts K) (old new : Store D K) (stop : Stop) (result : Result T Stop) (below : Result S Stop) → result ≡ Err stop → below ≡ Err stop → Goes disk keeper old new → HasCauses disk keeper old new below → KeepsDevices disk keeper old new result
+passed_on disk keeper old new stop result below is was goes causes = record {
+  goes = goes;
+  causes = record {
+    of_disk = λ e. causes.of_disk (was ∙ ap Err (same_stop result stop stops.Disk is e));
+    of_keeper = λ e. causes.of_keeper (was ∙ ap Err (same_stop result stop stops.Keeper is e));
+  };
+}
+  where
+    same_stop : {T : Type 0} (r : Result T Stop) (a b : Stop) → r ≡ Err a → r ≡ Err b → a ≡ b
+    same_stop r a b e f = cc
 
 -- ---- `close`
 
-closed-by : {D K : Type 0} (files : D → Option Files) (held : K → Option Held) (new : Session D K) (t : ℕ) (s : State) (o : Option ChangeList) → true ≡ is_some (option_map (λ (l : ChangeList). l.next) o) → Stands files held new (record s { transactions = without t s.transactions }) → Answers files held new (Some says.Ok) (close_on t o s)
-closed-by files held new t s None e stands = cc
-closed-by files held new t s (Some list) e stands = record { told = refl; stands = stands }
+closed-by : {D K : Type 0} (disk : DiskGhosts D) (keeper : KeeperGhosts K) (new : Session D K) (t : ℕ) (s : State) (o : Option ChangeList) → true ≡ is_some (option_map (λ (l : ChangeList). l.next) o) → Stands disk keeper new (record s { transactions = openings_without t s.transactions }) → Answers disk keeper new (Some says.Ok) (close_on t o s)
+closed-by disk keeper new t s None e stands = cc
+closed-by disk keeper new t s (Some list) e stands = record { told = refl; stands = stands; settled = omega arith }
 
-not_closed-by : {D K : Type 0} (files : D → Option Files) (held : K → Option Held) (old : Session D K) (t : ℕ) (s : State) (o : Option ChangeList) → false ≡ is_some (option_map (λ (l : ChangeList). l.next) o) → Stands files held old s → Answers files held old None (close_on t o s)
-not_closed-by files held old t s None e stands = record { told = refl; stands = stands }
-not_closed-by files held old t s (Some list) e stands = cc
+not_closed-by : {D K : Type 0} (disk : DiskGhosts D) (keeper : KeeperGhosts K) (old : Session D K) (t : ℕ) (s : State) (o : Option ChangeList) → false ≡ is_some (option_map (λ (l : ChangeList). l.next) o) → Stands disk keeper old s → Answers disk keeper old None (close_on t o s)
+not_closed-by disk keeper old t s None e stands = record { told = refl; stands = stands; settled = omega arith }
+not_closed-by disk keeper old t s (Some list) e stands = cc
 
-is_open : {D K : Type 0} (files : D → Option Files) (held : K → Option Held) (old : Session D K) (t : ℕ) (s : State) (b : Bool) → Stands files held old s → b ≡ is_some (open_of t old.link.transactions) → b ≡ is_some (option_map (λ (l : ChangeList). l.next) (list_at t s.transactions))
-is_open files held old t s b stands e =
-    e ∙ is_some-map (λ (x : Transaction). x.at) (open_of t old.link.transactions)
-    ∙ ap is_some (same_at t old.link.transactions s.transactions stands.link.transactions)
+is_open : {D K : Type 0} (disk : DiskGhosts D) (keeper : KeeperGhosts K) (old : Session D K) (t : ℕ) (s : State) (b : Bool) → Stands disk keeper old s → b ≡ is_some (open_of t old.link.transactions) → b ≡ is_some (option_map (λ (l : ChangeList). l.next) (list_at t s.transactions))
+is_open disk keeper old t s b stands e =
+    e ∙ is_some-map (λ (x : Transaction). x.view.next) (open_of t old.link.transactions)
+    ∙ ap is_some (same_next t old.link.transactions s.transactions stands.link.transactions)
 
-pub closed : {D K : Type 0} (files : D → Option Files) (held : K → Option Held) (old : Session D K) (link : Link) (t : ℕ) (s : State) → Stands files held old s → true ≡ is_some (open_of t old.link.transactions) → link ≡ record old.link { transactions = others t old.link.transactions } → Answers files held (record { store = old.store; link = link }) (Some says.Ok) (close_on t (list_at t s.transactions) s)
-closed files held old link t s stands e is =
-    closed-by files held (record { store = old.store; link = link }) t s (list_at t s.transactions) (is_open files held old t s true stands e)
+pub closed : {D K : Type 0} (disk : DiskGhosts D) (keeper : KeeperGhosts K) (old : Session D K) (link : Link) (t : ℕ) (s : State) → Stands disk keeper old s → true ≡ is_some (open_of t old.link.transactions) → link ≡ record old.link { transactions = transactions_without t old.link.transactions } → Answers disk keeper (record { store = old.store; link = link }) (Some says.Ok) (close_on t (list_at t s.transactions) s)
+closed disk keeper old link t s stands e is =
+    closed-by disk keeper (record { store = old.store; link = link }) t s (list_at t s.transactions) (is_open disk keeper old t s true stands e)
     (record {
       list = stands.list;
       link = record {
         pending = ap (λ (l : Link). l.pending) is ∙ stands.link.pending;
-        now = ap (λ (l : Link). l.now) is ∙ stands.link.now;
+        current = ap (λ (l : Link). l.current) is ∙ stands.link.current;
         opens = ap (λ (l : Link). l.opens) is ∙ stands.link.opens;
         transactions =
             ap (λ (l : Link). map opened_as l.transactions) is
@@ -168,16 +179,16 @@ closed files held old link t s stands e is =
       views = All-without (IsView s.list) t s.transactions stands.views;
     })
 
-pub not_closed : {D K : Type 0} (files : D → Option Files) (held : K → Option Held) (old : Session D K) (link : Link) (t : ℕ) (s : State) → Stands files held old s → false ≡ is_some (open_of t old.link.transactions) → link ≡ old.link → Answers files held (record { store = old.store; link = link }) None (close_on t (list_at t s.transactions) s)
-not_closed files held old link t s stands e is =
-    subst (λ (l : Link). Answers files held (record { store = old.store; link = l }) None (close_on t (list_at t s.transactions) s)) (sym is)
-    (not_closed-by files held old t s (list_at t s.transactions) (is_open files held old t s false stands e) stands)
+pub not_closed : {D K : Type 0} (disk : DiskGhosts D) (keeper : KeeperGhosts K) (old : Session D K) (link : Link) (t : ℕ) (s : State) → Stands disk keeper old s → false ≡ is_some (open_of t old.link.transactions) → link ≡ old.link → Answers disk keeper (record { store = old.store; link = link }) None (close_on t (list_at t s.transactions) s)
+not_closed disk keeper old link t s stands e is =
+    subst (λ (l : Link). Answers disk keeper (record { store = old.store; link = l }) None (close_on t (list_at t s.transactions) s)) (sym is)
+    (not_closed-by disk keeper old t s (list_at t s.transactions) (is_open disk keeper old t s false stands e) stands)
 
 -- ---- `latest`
 
-latest-by : {D K : Type 0} (files : D → Option Files) (held : K → Option Held) (new : Session D K) (t at : ℕ) (e : Entity) (k : List ℕ) (s : State) (v : Option (List ℕ)) (o : Option ChangeList) → list_at t s.transactions ≡ o → Some at ≡ option_map (λ (l : ChangeList). l.next) o → v ≡ value_at s.list.changes e k at → Stands files held new s → Answers files held new (Some (value_reply v)) (latest_on o e k s)
-latest-by files held new t at e k s v None found is valued stands = cc
-latest-by files held new t at e k s v (Some list) found is valued stands =
+latest-by : {D K : Type 0} (disk : DiskGhosts D) (keeper : KeeperGhosts K) (new : Session D K) (t at : ℕ) (e : Entity) (k : List ℕ) (s : State) (v : Option (List ℕ)) (o : Option ChangeList) → list_at t s.transactions ≡ o → Some at ≡ option_map (λ (l : ChangeList). l.next) o → v ≡ value_at s.list.changes e k at → Stands disk keeper new s → Answers disk keeper new (Some (value_reply v)) (latest_on o e k s)
+latest-by disk keeper new t at e k s v None found is valued stands = cc
+latest-by disk keeper new t at e k s v (Some list) found is valued stands =
     let next : at ≡ list.next = cc in
     let Q : ChangeList → Type 0 = λ l. value_at s.list.changes e k l.next ≡ latest l e k in
     let view : value_at s.list.changes e k list.next ≡ latest list e k =
@@ -185,22 +196,32 @@ latest-by files held new t at e k s v (Some list) found is valued stands =
     record {
       told = ap (λ x. Some (value_reply x)) (valued ∙ ap (value_at s.list.changes e k) next ∙ view);
       stands = stands;
+      settled = omega arith;
     }
 
-pub latest_read : {D K : Type 0} (files : D → Option Files) (held : K → Option Held) (old : Session D K) (store : Store D K) (t : ℕ) (x : Transaction) (e : Entity) (k : List ℕ) (v : Option (List ℕ)) (s : State) → Stands files held old s → Some x ≡ open_of t old.link.transactions → ((list : ChangeList) → Holds files held old.store list → v ≡ value_at list.changes e k x.at) → store ≡ record old.store { keeper = store.keeper } → held store.keeper ≡ held old.store.keeper → Answers files held (record { store = store; link = old.link }) (Some (value_reply v)) (latest_on (list_at t s.transactions) e k s)
-latest_read files held old store t x e k v s stands found valued same rows =
-    latest-by files held (record { store = store; link = old.link }) t x.at e k s v (list_at t s.transactions) refl
-    (ap (option_map (λ (y : Transaction). y.at)) found ∙ same_at t old.link.transactions s.transactions stands.link.transactions)
-    (valued s.list stands.list)
-    (record { list = holds_same files held old.store store s.list same rows stands.list; link = stands.link; views = stands.views })
+pub latest_read : {D K : Type 0} (disk : DiskGhosts D) (keeper : KeeperGhosts K) (old : Session D K) (store : Store D K) (t : ℕ) (x : Transaction) (e : Entity) (k : List ℕ) (v : Option (List ℕ)) (s : State) → Stands disk keeper old s → Some x ≡ open_of t old.link.transactions → v ≡ value_at s.list.changes e k x.view.next → Holds disk keeper store s.list → Answers disk keeper (record { store = store; link = old.link }) (Some (value_reply v)) (latest_on (list_at t s.transactions) e k s)
+latest_read disk keeper old store t x e k v s stands found valued holds =
+    latest-by disk keeper (record { store = store; link = old.link }) t x.view.next e k s v (list_at t s.transactions) refl
+    (ap (option_map (λ (y : Transaction). y.view.next)) found ∙ same_next t old.link.transactions s.transactions stands.link.transactions)
+    valued
+    (record { list = holds; link = stands.link; views = stands.views })
 
-not_read-by : {D K : Type 0} (files : D → Option Files) (held : K → Option Held) (old : Session D K) (e : Entity) (k : List ℕ) (s : State) (o : Option ChangeList) → None ≡ option_map (λ (l : ChangeList). l.next) o → Stands files held old s → Answers files held old None (latest_on o e k s)
-not_read-by files held old e k s None is stands = record { told = refl; stands = stands }
-not_read-by files held old e k s (Some list) is stands = cc
+not_read-by : {D K : Type 0} (disk : DiskGhosts D) (keeper : KeeperGhosts K) (old : Session D K) (e : Entity) (k : List ℕ) (s : State) (o : Option ChangeList) → None ≡ option_map (λ (l : ChangeList). l.next) o → Stands disk keeper old s → Answers disk keeper old None (latest_on o e k s)
+not_read-by disk keeper old e k s None is stands = record { told = refl; stands = stands; settled = omega arith }
+not_read-by disk keeper old e k s (Some list) is stands = cc
 
-pub not_read : {D K : Type 0} (files : D → Option Files) (held : K → Option Held) (old : Session D K) (t : ℕ) (e : Entity) (k : List ℕ) (s : State) → Stands files held old s → None ≡ open_of t old.link.transactions → Answers files held old None (latest_on (list_at t s.transactions) e k s)
-not_read files held old t e k s stands found =
-    not_read-by files held old e k s (list_at t s.transactions) (ap (option_map (λ (y : Transaction). y.at)) found ∙ same_at t old.link.transactions s.transactions stands.link.transactions) stands
+pub not_read : {D K : Type 0} (disk : DiskGhosts D) (keeper : KeeperGhosts K) (old : Session D K) (t : ℕ) (e : Entity) (k : List ℕ) (s : State) → Stands disk keeper old s → None ≡ open_of t old.link.transactions → Answers disk keeper old None (latest_on (list_at t s.transactions) e k s)
+not_read disk keeper old t e k s stands found =
+    not_read-by disk keeper old e k s (list_at t s.transactions) (ap (option_map (λ (y : Transaction). y.view.next)) found ∙ same_next t old.link.transactions s.transactions stands.link.transactions) stands
+
+-- what the transaction's own view tells
+pub own_read : {D K : Type 0} (number : ℕ) (xs : List Transaction) (t opened : Transaction) (store : Store D K) (list : ChangeList) (e : Entity) (k : List ℕ) (v : Option (List ℕ)) (keeper : KeeperGhosts K) → Some t ≡ open_of number xs → Some opened ≡ open_of number xs → Reads keeper t.view store list → (Reads keeper opened.view store list → v ≡ value_at list.changes e k opened.view.next) → Some (value_reply v) ≡ Some (value_reply (value_at list.changes e k t.view.next))
+own_read number xs t opened store list e k v keeper is found read valued =
+    let same : t ≡ opened = one_of t opened (open_of number xs) is found in
+    ap (λ x. Some (value_reply x)) (subst (λ (x : Transaction). v ≡ value_at list.changes e k x.view.next) (sym same) (valued (subst (λ (x : Transaction). Reads keeper x.view store list) same read)))
+  where
+    one_of : (a b : Transaction) (o : Option Transaction) → Some a ≡ o → Some b ≡ o → a ≡ b
+    one_of a b o e f = cc
 
 -- ---- `open`
 
@@ -209,25 +230,28 @@ view_itself : (list : ChangeList) (number : ℕ) → IsView list (record { numbe
 unfolding latest
 view_itself list number = record { earlier = omega arith; same = λ e k. refl }
 
-pub opened : {D K : Type 0} (files : D → Option Files) (held : K → Option Held) (limits : Limits) (old : Session D K) (link : Link) (o : Option ℕ) (number count : ℕ) (s : State) → Stands files held old s → o ≡ Some number → is_some o ≡ nat_lt (length old.link.transactions) limits.opens → IfSome o (λ n. (n ≡ old.link.opens + 1) × (link ≡ record old.link { opens = old.link.opens + 1; transactions = old.link.transactions ++ record { number = n; at = old.store.next; files = count } ∷ [] })) → Answers files held (record { store = old.store; link = link }) (Some (says.Opened number old.store.next)) (open_on limits s)
-opened files held limits old link None number count s stands given could begun = cc
-opened files held limits old link (Some n) number count s stands given could begun =
+pub opened : {D K : Type 0} (disk : DiskGhosts D) (keeper : KeeperGhosts K) (limits : Limits) (old : Session D K) (link : Link) (o : Option ℕ) (number next : ℕ) (view : View) (s : State) → Stands disk keeper old s → view ≡ view_of old.store → next ≡ view.next → o ≡ Some number → is_some o ≡ nat_lt (length old.link.transactions) limits.opens → IfSome o (λ n. (n ≡ old.link.opens + 1) × (link ≡ record old.link { opens = old.link.opens + 1; transactions = old.link.transactions ++ record { number = n; view = view } ∷ [] })) → Answers disk keeper (record { store = old.store; link = link }) (Some (says.Opened number next)) (open_on limits s)
+opened disk keeper limits old link None number next view s stands seen reads given could begun = cc
+opened disk keeper limits old link (Some n) number next view s stands seen reads given could begun =
+    let listed : next ≡ s.list.next = reads ∙ ap (λ (v : View). v.next) seen ∙ stands.list.next in
+    let viewed : view.next ≡ s.list.next = ap (λ (v : View). v.next) seen ∙ stands.list.next in
     let is : n ≡ number = cc in
     let as_many : length old.link.transactions ≡ length s.transactions =
     sym (length-map old.link.transactions opened_as) ∙ ap length stands.link.transactions ∙ length-map s.transactions opened_of in
     let room : nat_lt (length s.transactions) limits.opens ≡ true = sym (could ∙ ap (λ c. nat_lt c limits.opens) as_many) in
     let numbered : number ≡ s.opens + 1 = sym is ∙ begun.0 ∙ ap (λ c. c + 1) stands.link.opens in
     let added : Opening = record { number = s.opens + 1; list = s.list } in
-    let mine : Transaction = record { number = n; at = old.store.next; files = count } in
-    let entry : opened_as mine ≡ opened_of added = λ i. record { number = (is ∙ numbered) i; at = stands.list.next i } in
+    let mine : Transaction = record { number = n; view = view } in
+    let entry : opened_as mine ≡ opened_of added = λ i. record { number = (is ∙ numbered) i; next = viewed i } in
     rw room
     (record {
-      told = λ i. Some (says.Opened (numbered i) (stands.list.next i));
+      told = λ i. Some (says.Opened (numbered i) (listed i));
+      settled = omega arith;
       stands = record {
         list = stands.list;
         link = record {
           pending = ap (λ (l : Link). l.pending) begun.1 ∙ stands.link.pending;
-          now = ap (λ (l : Link). l.now) begun.1 ∙ stands.link.now;
+          current = ap (λ (l : Link). l.current) begun.1 ∙ stands.link.current;
           opens = ap (λ (l : Link). l.opens) begun.1 ∙ ap (λ c. c + 1) stands.link.opens;
           transactions =
               ap (λ (l : Link). map opened_as l.transactions) begun.1
@@ -261,17 +285,17 @@ first_so : (a b : Bool) → (a && b) ≡ true → a ≡ true
 first_so true b e = refl
 first_so false b e = cc
 
-pub committed : {D K : Type 0} (files : D → Option Files) (held : K → Option Held) (limits : Limits) (old new : Session D K) (pending : List Change) (o : Option Accepted) (a : Accepted) (s : State) → Stands files held old s → IsBatch 0 (4096 * old.store.size) old.link.pending → pending ≡ old.link.pending → new.link ≡ record old.link { pending = []; held = 0; now = None } → o ≡ Some a → ((list : ChangeList) → Holds files held old.store list → Commits files held limits.content list pending o new.store) → Answers files held new (Some (says.Committed a.changes a.next)) (commit_on limits s)
-committed files held limits old new pending None a s stands batch is cleared given commits = cc
-committed files held limits old new pending (Some b) a s stands batch is cleared given commits =
-    let all : Commits files held limits.content s.list pending (Some b) new.store = commits s.list stands.list in
+pub committed : {D K : Type 0} (disk : DiskGhosts D) (keeper : KeeperGhosts K) (limits : Limits) (old new : Session D K) (pending : List Change) (o : Option Accepted) (a : Accepted) (s : State) → Stands disk keeper old s → IsBatch 0 (4096 * old.store.size) old.link.pending → pending ≡ old.link.pending → new.link ≡ record old.link { pending = []; content = 0; current = None } → o ≡ Some a → ((list : ChangeList) → Holds disk keeper old.store list → Commits disk keeper limits.content list pending o new.store) → Answers disk keeper new (Some (says.Committed a.changes a.next)) (commit_on limits s)
+committed disk keeper limits old new pending None a s stands batch is cleared given commits = cc
+committed disk keeper limits old new pending (Some b) a s stands batch is cleared given commits =
+    let all : Commits disk keeper limits.content s.list pending (Some b) new.store = commits s.list stands.list in
     let same : pending ≡ s.pending = is ∙ stands.link.pending in
     let could : may_commit limits s ≡ true = sym (all.could ∙ ap (may_grow limits.content s.list) same) in
     let accepted_is : b ≡ a = cc in
     let told : a ≡ record { changes = length (merged s.pending); next = next_of s.list.next (merged s.pending) } =
     sym accepted_is ∙ all.told ∙ ap (λ (p : List Change). record { changes = length (merged p); next = next_of s.list.next (merged p) }) same in
-    let grows : Holds files held new.store (grown s.list (merged s.pending)) =
-    subst (λ (p : List Change). Holds files held new.store (grown s.list (merged p))) same all.grows in
+    let grows : Holds disk keeper new.store (grown s.list (merged s.pending)) =
+    subst (λ (p : List Change). Holds disk keeper new.store (grown s.list (merged p))) same all.grows in
     let fits : IsBatch 0 (4096 * s.list.size) s.pending =
     subst (λ (p : List Change). IsBatch 0 (4096 * s.list.size) p) stands.link.pending
     (subst (λ n. IsBatch 0 (4096 * n) old.link.pending) stands.list.size batch) in
@@ -280,11 +304,12 @@ committed files held limits old new pending (Some b) a s stands batch is cleared
     rw could
     (record {
       told = λ i. Some (says.Committed (told i).changes (told i).next);
+      settled = omega arith;
       stands = record {
         list = grows;
         link = record {
           pending = ap (λ (l : Link). l.pending) cleared;
-          now = ap (λ (l : Link). l.now) cleared;
+          current = ap (λ (l : Link). l.current) cleared;
           opens = ap (λ (l : Link). l.opens) cleared ∙ stands.link.opens;
           transactions = ap (λ (l : Link). map opened_as l.transactions) cleared ∙ stands.link.transactions;
         };
@@ -300,14 +325,14 @@ appended-AscendFrom least (d ∷ cs) c low up below =
     (up.0, appended-AscendFrom d.tx cs c (All-head (λ (d : Change). d.tx ≤ c.tx) d cs below) up.1 (All-tail (λ (d : Change). d.tx ≤ c.tx) d cs below))
 
 -- a change of the current number joins the pending ones
-pub joined_link : (limits : Limits) (far : ℕ) (old new : Link) (c : Change) → IsLink limits far old → old.now ≡ Some c.tx → IsChange c → true ≡ nat_le (content_of (old.pending ++ c ∷ [])) limits.content → new ≡ record old { pending = old.pending ++ c ∷ []; held = content_of (old.pending ++ c ∷ []) } → IsLink limits far new
+pub joined_link : (limits : Limits) (far : ℕ) (old new : Link) (c : Change) → IsLink limits far old → old.current ≡ Some c.tx → IsChange c → true ≡ nat_le (content_of (old.pending ++ c ∷ [])) limits.content → new ≡ record old { pending = old.pending ++ c ∷ []; content = content_of (old.pending ++ c ∷ []) } → IsLink limits far new
 joined_link limits far old new c sound now fits room is =
-    let number : unwrap_or old.now 0 ≡ c.tx = ap (λ o. unwrap_or o 0) now in
+    let number : unwrap_or old.current 0 ≡ c.tx = ap (λ o. unwrap_or o 0) now in
     let low : All (λ (d : Change). d.tx ≤ c.tx) old.pending = λ i z below. subst (λ n. (get_or old.pending i z).tx ≤ n) number (sound.latest_first i z below) in
     let near : c.tx < far = subst (λ n. n < far) number sound.near in
     subst (IsLink limits far) (sym is)
     (record {
-      held = refl;
+      content = refl;
       within = leb-true (content_of (old.pending ++ c ∷ [])) limits.content (sym room);
       pending = record {
         ascend = appended-AscendFrom 0 old.pending c (omega arith) sound.pending.ascend low;
@@ -326,68 +351,74 @@ pub on_true : (b : Bool) (P : Type 0) → b ≡ true → OnTrue b P → P
 on_true true P e h = h
 on_true false P e h = cc
 
--- ---- the files of open transactions
+-- ---- the views of open transactions
 
-pub files_of_opened : (size files next : ℕ) (xs : List Transaction) (number : ℕ) → files * size ≤ next → All (HasFiles files size) xs → All (HasFiles files size) (xs ++ record { number = number; at = next; files = files } ∷ [])
-files_of_opened size files next xs number fits all =
-    let added : Transaction = record { number = number; at = next; files = files } in
-    All-append (HasFiles files size) xs (added ∷ []) all
-    (All-cons (HasFiles files size) added [] (itself files, fits) (All-nil (HasFiles files size)))
+-- the store has what it is asked for now
+view_now : {D K : Type 0} (keeper : KeeperGhosts K) (most : ℕ) (store : Store D K) → IsStore keeper most store → HasView store (view_of store)
+view_now keeper most store sound = record { files = itself (steps_held store); before = sound.complete }
   where
     itself : (n : ℕ) → n ≤ n
     itself n = omega arith
 
--- they stay there while more are written
-pub files_later : (size few many : ℕ) (xs : List Transaction) → few ≤ many → All (HasFiles few size) xs → All (HasFiles many size) xs
-files_later size few many xs more all = λ i z below. let h = all i z below in (up h.0 more, h.1)
-  where
-    up : {a b c : ℕ} → a ≤ b → b ≤ c → a ≤ c
-    up h g = omega arith
+views_opened : {D K : Type 0} (keeper : KeeperGhosts K) (most : ℕ) (store : Store D K) (xs : List Transaction) (number : ℕ) (view : View) → view ≡ view_of store → IsStore keeper most store → All (λ (t : Transaction). HasView store t.view) xs → All (λ (t : Transaction). HasView store t.view) (xs ++ record { number = number; view = view } ∷ [])
+views_opened keeper most store xs number view seen sound all =
+    let added : Transaction = record { number = number; view = view } in
+    All-append (λ (t : Transaction). HasView store t.view) xs (added ∷ []) all
+    (All-cons (λ (t : Transaction). HasView store t.view) added [] (subst (HasView store) (sym seen) (view_now keeper most store sound)) (All-nil (λ (t : Transaction). HasView store t.view)))
+
+-- they stay there
+pub views_later : {D K : Type 0} (disk : DiskGhosts D) (keeper : KeeperGhosts K) (old new : Store D K) (xs : List Transaction) → Goes disk keeper old new → All (λ (t : Transaction). HasView old t.view) xs → All (λ (t : Transaction). HasView new t.view) xs
+views_later disk keeper old new xs goes all = λ i z below. view-later {disk = disk} {keeper = keeper} goes (all i z below)
 
 link_opened : (limits : Limits) (far : ℕ) (old : Link) (opens : ℕ) (xs : List Transaction) → IsLink limits far old → IsLink limits far (record old { opens = opens; transactions = xs })
-link_opened limits far old opens xs link = record { held = link.held; within = link.within; pending = link.pending; latest_first = link.latest_first; near = link.near }
+link_opened limits far old opens xs link = record { content = link.content; within = link.within; pending = link.pending; latest_first = link.latest_first; near = link.near }
 
-pub begin_sound : {D K : Type 0} (held : K → Option Held) (limits : Limits) (old : Session D K) (link : Link) (o : Option ℕ) (number count : ℕ) → o ≡ Some number → count ≡ length old.store.files → IfSome o (λ n. (n ≡ old.link.opens + 1) × (link ≡ record old.link { opens = old.link.opens + 1; transactions = old.link.transactions ++ record { number = n; at = old.store.next; files = count } ∷ [] })) → IsSession held limits old → IsSession held limits (record { store = old.store; link = link })
-begin_sound held limits old link None number count given are begun sound = cc
-begin_sound held limits old link (Some n) number count given are begun sound =
-    let added : List Transaction = old.link.transactions ++ record { number = n; at = old.store.next; files = count } ∷ [] in
-    let opened_more : All (HasFiles (length old.store.files) old.store.size) (old.link.transactions ++ record { number = n; at = old.store.next; files = length old.store.files } ∷ []) =
-    files_of_opened old.store.size (length old.store.files) old.store.next old.link.transactions n sound.store.complete sound.files in
-    subst (λ (l : Link). IsSession held limits (record { store = old.store; link = l })) (sym begun.1)
+pub open_sound : {D K : Type 0} (keeper : KeeperGhosts K) (limits : Limits) (old : Session D K) (link : Link) (o : Option ℕ) (number : ℕ) (view : View) → o ≡ Some number → view ≡ view_of old.store → IfSome o (λ n. (n ≡ old.link.opens + 1) × (link ≡ record old.link { opens = old.link.opens + 1; transactions = old.link.transactions ++ record { number = n; view = view } ∷ [] })) → IsSession keeper limits old → IsSession keeper limits (record { store = old.store; link = link })
+open_sound keeper limits old link None number view given seen begun sound = cc
+open_sound keeper limits old link (Some n) number view given seen begun sound =
+    let added : List Transaction = old.link.transactions ++ record { number = n; view = view } ∷ [] in
+    subst (λ (l : Link). IsSession keeper limits (record { store = old.store; link = l })) (sym begun.1)
     (record {
       store = sound.store;
       link = link_opened limits (4096 * old.store.size) old.link (old.link.opens + 1) added sound.link;
-      files = subst (λ f. All (HasFiles (length old.store.files) old.store.size) (old.link.transactions ++ record { number = n; at = old.store.next; files = f } ∷ [])) (sym are) opened_more;
+      views = views_opened keeper limits.content old.store old.link.transactions n view seen sound.store sound.views;
     })
 
-pub end_sound : {D K : Type 0} (held : K → Option Held) (limits : Limits) (old : Session D K) (link : Link) (t : ℕ) → link ≡ record old.link { transactions = others t old.link.transactions } → IsSession held limits old → IsSession held limits (record { store = old.store; link = link })
-end_sound held limits old link t is sound =
-    subst (λ (l : Link). IsSession held limits (record { store = old.store; link = l })) (sym is)
+-- the new transaction keeps the store as it stands
+pub opened_view : {D K : Type 0} (old : Session D K) (link : Link) (o : Option ℕ) (number : ℕ) (view : View) → o ≡ Some number → view ≡ view_of old.store → IfSome o (λ n. (n ≡ old.link.opens + 1) × (link ≡ record old.link { opens = old.link.opens + 1; transactions = old.link.transactions ++ record { number = n; view = view } ∷ [] })) → link.transactions ≡ old.link.transactions ++ record { number = old.link.opens + 1; view = view_of old.store } ∷ []
+opened_view old link None number view given seen begun = cc
+opened_view old link (Some n) number view given seen begun =
+    ap (λ (l : Link). l.transactions) begun.1 ∙ (λ i. old.link.transactions ++ record { number = begun.0 i; view = seen i } ∷ [])
+
+pub close_sound : {D K : Type 0} (keeper : KeeperGhosts K) (limits : Limits) (old : Session D K) (link : Link) (t : ℕ) → link ≡ record old.link { transactions = transactions_without t old.link.transactions } → IsSession keeper limits old → IsSession keeper limits (record { store = old.store; link = link })
+close_sound keeper limits old link t is sound =
+    subst (λ (l : Link). IsSession keeper limits (record { store = old.store; link = l })) (sym is)
     (record {
       store = sound.store;
-      link = link_opened limits (4096 * old.store.size) old.link old.link.opens (others t old.link.transactions) sound.link;
-      files = All-others (HasFiles (length old.store.files) old.store.size) t old.link.transactions sound.files;
+      link = link_opened limits (4096 * old.store.size) old.link old.link.opens (transactions_without t old.link.transactions) sound.link;
+      views = All-others (λ (x : Transaction). HasView old.store x.view) t old.link.transactions sound.views;
     })
 
-pub settle_sound : {D K : Type 0} (held : K → Option Held) (limits : Limits) (old : Session D K) (store : Store D K) → ((most : ℕ) → IsStore held most old.store → IsStore held most store) → length old.store.files ≤ length store.files → store ≡ record old.store { disk = store.disk; keeper = store.keeper; files = store.files } → IsSession held limits old → IsSession held limits (record { store = store; link = old.link })
-settle_sound held limits old store sounds more same sound =
-    let size : old.store.size ≡ store.size = sym (ap (λ (x : Store _ _). x.size) same) in
-    record {
-      store = sounds limits.content sound.store;
-      link = subst (λ n. IsLink limits (4096 * n) old.link) size sound.link;
-      files = files_later store.size (length old.store.files) (length store.files) old.link.transactions more
-          (subst (λ n. All (HasFiles (length old.store.files) n) old.link.transactions) size sound.files);
-    }
+-- a call on the store alone
+pub store_sound : {D K : Type 0} (disk : DiskGhosts D) (keeper : KeeperGhosts K) (limits : Limits) (old : Session D K) (store : Store D K) → IsStore keeper limits.content store → Goes disk keeper old.store store → IsSession keeper limits old → IsSession keeper limits (record { store = store; link = old.link })
+store_sound disk keeper limits old store sounds goes sound = record {
+  store = sounds;
+  link = subst (λ n. IsLink limits (4096 * n) old.link) (sym goes.size) sound.link;
+  views = views_later disk keeper old.store store old.link.transactions goes sound.views;
+}
 
 -- ---- `settle`
 
-pub settled : {D K : Type 0} (files : D → Option Files) (held : K → Option Held) (old new : Session D K) (names : List (List ℕ)) (s : State) → Stands files held old s → new.link ≡ old.link → Holds files held new.store s.list → length new.store.files ≡ old.store.next / old.store.size → names ≡ map spelled (step_names (length new.store.files)) → Answers files held new (Some (says.Files names)) (settle_on s)
-settled files held old new names s stands link holds all are = record {
-  told = ap (λ (x : List (List ℕ)). Some (says.Files x))
-      (are ∙ ap (λ n. map spelled (step_names n)) (all ∙ (λ i. stands.list.next i / stands.list.size i)));
+pub all_settled : {D K : Type 0} (disk : DiskGhosts D) (keeper : KeeperGhosts K) (old new : Store D K) (list : ChangeList) → Holds disk keeper old list → steps_held new ≡ old.next / old.size → steps_held new ≡ complete_steps list
+all_settled disk keeper old new list holds all = all ∙ (λ i. holds.next i / holds.size i)
+
+pub settled : {D K : Type 0} (disk : DiskGhosts D) (keeper : KeeperGhosts K) (old new : Session D K) (names : List (List ℕ)) (s : State) → Stands disk keeper old s → new.link ≡ old.link → Holds disk keeper new.store s.list → steps_held new.store ≡ complete_steps s.list → names ≡ map spelled (held_names (steps_held new.store)) → Answers disk keeper new (Some (says.Files names)) (settle_on s)
+settled disk keeper old new names s stands link holds all are = record {
+  told = ap (λ (x : List (List ℕ)). Some (says.Files x)) (are ∙ ap (λ n. map spelled (held_names n)) all);
   stands = record {
     list = holds;
     link = subst (λ (l : Link). LinkStands l s) (sym link) stands.link;
     views = stands.views;
   };
+  settled = omega (arith, all);
 }

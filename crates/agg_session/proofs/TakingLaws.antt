@@ -3,8 +3,8 @@ use Rattle.std.proofs.Common.{◌≡◌, ℕ, ◌+◌, ◌<◌, ◌≤◌, ◌�
 use Rattle.std.specs.Option.{ForSome}
 use Rattle.std.proofs.lemmas.List.{take-append-drop}
 use Rattle.std.proofs.lemmas.Grind.{common_steps}
-use Rattle.agg_outside.specs.Files.{Files}
-use Rattle.agg_outside.specs.Rows.{Held}
+use Rattle.agg_outside.specs.declared.disk.Disk.{Ghosts as DiskGhosts}
+use Rattle.agg_outside.specs.declared.keeper.Keeper.{Ghosts as KeeperGhosts}
 use Rattle.line_words.specs.LineCut.{next_cut, pieces_of}
 use Rattle.agg_session.specs.declared.limits.Limits.{Limits}
 use Rattle.agg_session.specs.declared.served.Served.{Served}
@@ -12,7 +12,7 @@ use Rattle.agg_session.specs.declared.ends.LinkEnd.{LinkEnd}
 use Rattle.agg_session.specs.declared.ends.LinkEnd.TheVariants.{Done}
 use Rattle.agg_session.specs.State.{State}
 use Rattle.agg_session.specs.Answer.{ended_lines}
-use Rattle.agg_session.specs.Served.{IsServed, IsAnswered, HasAnswered, HasStopped, IsTaken, IsAtEnd, Takes, TakesPart, Progress, ServesAll, ServesEnded, ServesPart, EndsLong}
+use Rattle.agg_session.specs.Served.{IsServed, IsAnswered, HasAnswered, HasStopped, IsTaken, IsAtEnd, Takes, TakesPart, Progress, ServesAll, ServesEnded, ServesPart, EndsLong, TakesAtMost, TakesFewer}
 use Rattle.agg_session.proofs.StoppingLaws.{stops_before, all_ended}
 
 -- ---- what was taken
@@ -67,18 +67,31 @@ ends_long left after text most taken is = λ input told.
     subst (λ o. IsSomeAnd o (λ rest. length input ≡ most + length rest)) (sym m.1)
     (omega (arith, ap length m.2, length-append text m.0, is))
 
+-- no more was taken than may be, and where the text is shorter fewer
+pub takes_at_most : (left after : Option (List ℕ)) (text : List ℕ) (most : ℕ) → IsTaken left text after → length text ≤ most → TakesAtMost most left after
+takes_at_most left after text most taken within = λ input told.
+    let m = some_of after (λ rest. input ≡ text ++ rest) (taken input told) in
+    subst (λ o. IsSomeAnd o (λ rest. length input ≤ most + length rest)) (sym m.1)
+    (omega (arith, ap length m.2, length-append text m.0, within))
+
+pub takes_fewer : (left after : Option (List ℕ)) (text : List ℕ) (most : ℕ) → IsTaken left text after → length text < most → TakesFewer most left after
+takes_fewer left after text most taken within = λ input told.
+    let m = some_of after (λ rest. input ≡ text ++ rest) (taken input told) in
+    subst (λ o. IsSomeAnd o (λ rest. length input < most + length rest)) (sym m.1)
+    (omega (arith, ap length m.2, length-append text m.0, within))
+
 -- ---- how far a source was taken
 
-module _ {D K : Type 0} (files : D → Option Files) (held : K → Option Held) (limits : Limits) (old now : Served D K) (out_old out left_old left : Option (List ℕ)) (taken : ℕ) where
-  pub begins : now ≡ old → out ≡ out_old → left ≡ left_old → taken ≡ 0 → Progress files held limits old now out_old out left_old left taken
+module _ {D K : Type 0} (disk : DiskGhosts D) (keeper : KeeperGhosts K) (limits : Limits) (old now : Served D K) (out_old out left_old left : Option (List ℕ)) (taken : ℕ) where
+  pub begins : now ≡ old → out ≡ out_old → left ≡ left_old → taken ≡ 0 → Progress disk keeper limits old now out_old out left_old left taken
   begins same quiet is zero = record {
     text = [];
     is_taken = untaken left_old left is;
     counted = sym zero;
-    answers = λ start first all. subst (λ (x : Served D K). IsAnswered files held limits x first out start []) (sym same) (subst (λ o. IsAnswered files held limits old first o start []) (sym quiet) all);
+    answers = λ start first all. subst (λ (x : Served D K). IsAnswered disk keeper limits x first out start []) (sym same) (subst (λ o. IsAnswered disk keeper limits old first o start []) (sym quiet) all);
   }
 
-  pub goes_on : (after : Served D K) (out_after left_after : Option (List ℕ)) (count : ℕ) → Progress files held limits old now out_old out left_old left taken → Takes files held limits now after out out_after left left_after count → Progress files held limits old after out_old out_after left_old left_after (taken + count)
+  pub goes_on : (after : Served D K) (out_after left_after : Option (List ℕ)) (count : ℕ) → Progress disk keeper limits old now out_old out left_old left taken → Takes disk keeper limits now after out out_after left left_after count → Progress disk keeper limits old after out_old out_after left_old left_after (taken + count)
   goes_on after out_after left_after count p t = record {
     text = p.text ++ t.piece;
     is_taken = taken_more left_old left left_after p.text t.piece p.is_taken t.is_taken;
@@ -87,7 +100,7 @@ module _ {D K : Type 0} (files : D → Option Files) (held : K → Option Held) 
   }
 
   -- at the end of the source the last line is answered too
-  pub serves_all : (mid : Served D K) (out_mid : Option (List ℕ)) (after : Served D K) (out_after left_after : Option (List ℕ)) (count : ℕ) → count ≡ 0 → taken < limits.bytes → Progress files held limits old now out_old out left_old left taken → Takes files held limits now mid out out_mid left left_after count → ((start : State) (first : Option (List ℕ)) (text : List ℕ) → IsAnswered files held limits mid first out_mid start text → HasAnswered files held limits after.session first out_after start (pieces_of limits.line text)) → ServesAll files held limits old after out_old out_after left_old left_after
+  pub serves_all : (mid : Served D K) (out_mid : Option (List ℕ)) (after : Served D K) (out_after left_after : Option (List ℕ)) (count : ℕ) → count ≡ 0 → taken < limits.bytes → Progress disk keeper limits old now out_old out left_old left taken → Takes disk keeper limits now mid out out_mid left left_after count → ((start : State) (first : Option (List ℕ)) (text : List ℕ) → IsAnswered disk keeper limits mid first out_mid start text → HasAnswered disk keeper limits after.session first out_after start (pieces_of limits.line text)) → ServesAll disk keeper limits old after out_old out_after left_old left_after
   serves_all mid out_mid after out_after left_after count zero within p t finishes = record {
     text = p.text ++ t.piece;
     is_taken = taken_more left_old left left_after p.text t.piece p.is_taken t.is_taken;
@@ -97,7 +110,7 @@ module _ {D K : Type 0} (files : D → Option Files) (held : K → Option Held) 
   }
 
   -- or it is answered in part
-  pub last_part : (mid : Served D K) (out_mid : Option (List ℕ)) (after : Served D K) (out_after left_after : Option (List ℕ)) (count : ℕ) → count ≡ 0 → taken < limits.bytes → Progress files held limits old now out_old out left_old left taken → Takes files held limits now mid out out_mid left left_after count → ((start : State) (first : Option (List ℕ)) (text : List ℕ) → IsAnswered files held limits mid first out_mid start text → HasStopped files held limits after.session.store first out_after start (pieces_of limits.line text)) → ServesPart files held limits old after out_old out_after left_old left_after
+  pub last_part : (mid : Served D K) (out_mid : Option (List ℕ)) (after : Served D K) (out_after left_after : Option (List ℕ)) (count : ℕ) → count ≡ 0 → taken < limits.bytes → Progress disk keeper limits old now out_old out left_old left taken → Takes disk keeper limits now mid out out_mid left left_after count → ((start : State) (first : Option (List ℕ)) (text : List ℕ) → IsAnswered disk keeper limits mid first out_mid start text → HasStopped disk keeper limits after.session.store first out_after start (pieces_of limits.line text)) → ServesPart disk keeper limits old after out_old out_after left_old left_after
   last_part mid out_mid after out_after left_after count zero within p t finishes = record {
     text = p.text ++ t.piece;
     is_taken = taken_more left_old left left_after p.text t.piece p.is_taken t.is_taken;
@@ -108,7 +121,7 @@ module _ {D K : Type 0} (files : D → Option Files) (held : K → Option Held) 
   }
 
   -- a piece was taken whose lines are answered in part
-  pub piece_part : (room : ℕ) (after : Served D K) (out_after left_after : Option (List ℕ)) → taken + room ≤ limits.bytes → Progress files held limits old now out_old out left_old left taken → TakesPart files held limits room now after out out_after left left_after → ServesPart files held limits old after out_old out_after left_old left_after
+  pub piece_part : (room : ℕ) (after : Served D K) (out_after left_after : Option (List ℕ)) → taken + room ≤ limits.bytes → Progress disk keeper limits old now out_old out left_old left taken → TakesPart disk keeper limits room now after out out_after left left_after → ServesPart disk keeper limits old after out_old out_after left_old left_after
   piece_part room after out_after left_after within p t = record {
     text = p.text ++ t.piece;
     is_taken = taken_more left_old left left_after p.text t.piece p.is_taken t.is_taken;
@@ -119,18 +132,18 @@ module _ {D K : Type 0} (files : D → Option Files) (held : K → Option Held) 
   }
 
   -- between two takes
-  pub serves_ended : (after : Served D K) (out_after left_after : Option (List ℕ)) → after ≡ now → out_after ≡ out → left_after ≡ left → taken ≤ limits.bytes → IsServed held limits now → (next_cut now.cut).0 ≡ None → Progress files held limits old now out_old out left_old left taken → ServesEnded files held limits old after out_old out_after left_old left_after
+  pub serves_ended : (after : Served D K) (out_after left_after : Option (List ℕ)) → after ≡ now → out_after ≡ out → left_after ≡ left → taken ≤ limits.bytes → IsServed keeper limits now → (next_cut now.cut).0 ≡ None → Progress disk keeper limits old now out_old out left_old left taken → ServesEnded disk keeper limits old after out_old out_after left_old left_after
   serves_ended after out_after left_after same quiet is within sound none p = record {
     text = p.text;
     is_taken = subst (λ o. IsTaken left_old p.text o) (sym is) p.is_taken;
     within = omega (arith, p.counted);
     answers = λ start first all.
-        subst (λ (x : Served D K). HasAnswered files held limits x.session first out_after start (ended_lines limits.line p.text)) (sym same)
-        (subst (λ o. HasAnswered files held limits now.session first o start (ended_lines limits.line p.text)) (sym quiet)
-        (all_ended files held limits now first out start p.text sound none (p.answers start first all)));
+        subst (λ (x : Served D K). HasAnswered disk keeper limits x.session first out_after start (ended_lines limits.line p.text)) (sym same)
+        (subst (λ o. HasAnswered disk keeper limits now.session first o start (ended_lines limits.line p.text)) (sym quiet)
+        (all_ended disk keeper limits now first out start p.text sound none (p.answers start first all)));
   }
 
-  pub ended_part : (after : Served D K) (out_after left_after : Option (List ℕ)) → after ≡ now → out_after ≡ out → left_after ≡ left → taken ≤ limits.bytes → Progress files held limits old now out_old out left_old left taken → ServesPart files held limits old after out_old out_after left_old left_after
+  pub ended_part : (after : Served D K) (out_after left_after : Option (List ℕ)) → after ≡ now → out_after ≡ out → left_after ≡ left → taken ≤ limits.bytes → Progress disk keeper limits old now out_old out left_old left taken → ServesPart disk keeper limits old after out_old out_after left_old left_after
   ended_part after out_after left_after same quiet is within p = record {
     text = p.text;
     is_taken = subst (λ o. IsTaken left_old p.text o) (sym is) p.is_taken;
@@ -138,7 +151,7 @@ module _ {D K : Type 0} (files : D → Option Files) (held : K → Option Held) 
     lines = ended_lines limits.line (p.text ++ []);
     due = inl (ap (ended_lines limits.line) (append-nil p.text));
     answers = λ start first all.
-        stops_before files held limits now after.session.store first out out_after start p.text [] (ap (λ (x : Served D K). x.session.store) same) quiet (p.answers start first all);
+        stops_before disk keeper limits now after.session.store first out out_after start p.text [] (ap (λ (x : Served D K). x.session.store) same) quiet (p.answers start first all);
   }
 
 -- how a link ends whose last line was worked on

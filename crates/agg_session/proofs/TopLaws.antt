@@ -1,42 +1,79 @@
 -- Laws of a run from its first byte.
-use Rattle.std.proofs.Common.{◌≡◌, ◌⊎◌, inl, inr, ℕ, ◌+◌, ◌<◌, ◌≤◌, ◌^◌, ◌*◌, List, [], ◌++◌, map, length, Option, Some, None, IsSomeAnd, append-nil, refl, ap, subst, sym, ◌∙◌, arith}
-use Rattle.std.specs.FinMap.{empty}
+use Rattle.std.proofs.Common.{◌≡◌, ◌⊎◌, ◌↔◌, inl, inr, Result, Ok, Err, ℕ, ◌+◌, ◌<◌, ◌≤◌, ◌^◌, ◌*◌, List, [], ◌++◌, map, length, All, Contains, Option, Some, None, IfSome, IsSomeAnd, append-nil, refl, ap, subst, sym, ◌∙◌, arith}
+use Rattle.std.specs.FinMap.{empty, get, get-empty}
+use Rattle.std.specs.Ordering.{nat_cmp}
+use Rattle.std.specs.Cmp.Lexicographic.{slice_cmp}
 use Rattle.std.specs.Option.{ForSome}
 use Rattle.std.proofs.lemmas.List.Elements.{All-nil}
 use Rattle.agg_outside.specs.Files.{Files}
 use Rattle.agg_outside.specs.Rows.{Held}
+use Rattle.agg_outside.specs.declared.disk.Disk.{Ghosts as DiskGhosts}
+use Rattle.agg_outside.specs.declared.keeper.Keeper.{Ghosts as KeeperGhosts}
 use Rattle.agg_model.specs.declared.change.Change.{Change}
 use Rattle.agg_model.specs.Arranged.{arranged}
 use Rattle.agg_model.specs.ChangeList.{ChangeList}
 use Rattle.agg_model.specs.Batch.{IsChange}
-use Rattle.line_words.specs.LineCut.{Uncut, next_cut, pieces_of}
-use Rattle.plain_state.specs.Canonical.{step_names, files_named}
+use Rattle.agg_core.specs.Files.{HasFile, HasExactly, KeepsNamed, Covers, SameOutside, temporary_of}
+use Rattle.agg_core.proofs.Kept.{covers}
+use Rattle.agg_core.proofs.Written.{written-none}
+use Rattle.command_words.specs.CommandWords.{command_of}
+use Rattle.command_words.specs.declared.words.WordsError.{WordsError}
+use Rattle.command_words.specs.declared.words.WordsError.TheVariants as words
+use Rattle.command_words.specs.declared.words.Command.{Command}
+use Rattle.command_words.specs.declared.words.Command.TheVariants.{Run}
+use Rattle.line_words.specs.LineCut.{Uncut, Piece, next_cut, pieces_of}
+use Rattle.merge_ranges.specs.declared.name.FileName.{FileName}
+use Rattle.merge_ranges.specs.Name.{spelled}
+use Rattle.plain_state.specs.declared.store.Store.{Store}
+use Rattle.plain_state.specs.Canonical.{held_names}
+use Rattle.plain_state.specs.Rows.{rows_of, held_for}
+use Rattle.plain_state.specs.Store.{Holds, Keeps, Goes, steps_held}
+use Rattle.plain_state.proofs.GoingLaws.{held_small, has_rows, goes-trans}
 use Rattle.plain_state.proofs.StoreLaws.{kept}
 use Rattle.agg_session.specs.declared.link.Link.{Link}
 use Rattle.agg_session.specs.declared.limits.Limits.{Limits}
-use Rattle.plain_state.specs.declared.store.Store.{Store}
 use Rattle.agg_session.specs.declared.served.Served.{Served}
 use Rattle.agg_session.specs.declared.ends.LinkEnd.{LinkEnd}
 use Rattle.agg_session.specs.declared.ends.LinkEnd.TheVariants as ends
 use Rattle.agg_session.specs.declared.status.Status.{Status}
 use Rattle.agg_session.specs.declared.status.Status.TheVariants as status
-use Rattle.agg_session.specs.Links.{fresh, opened_as}
-use Rattle.plain_state.specs.Rows.{rows_of}
+use Rattle.agg_session.specs.Links.{first_link, opened_as}
 use Rattle.agg_session.specs.Running.{IsView}
 use Rattle.agg_session.specs.Served.{IsAnswered, ServesAll, ServesEnded, ServesPart, EndsLong}
 use Rattle.agg_session.specs.State.{starting}
-use Rattle.agg_session.specs.Answer.{after, joined, replies, state_after, ended_lines}
-use Rattle.plain_state.specs.Store.{Holds, Keeps}
-use Rattle.agg_session.specs.Top.{empty_list, empty_held, status_of, EndsWhole, EndsBetween, EndsWithin, IsSettled, AreLeft, IsBetween, IsShort}
+use Rattle.agg_session.specs.Answer.{after, joined, replies, state_after, AreSettled, ended_lines}
+use Rattle.agg_session.specs.Statuses.{status_of_words}
+use Rattle.agg_session.specs.Top.{usual_limits, AsksForRun, empty_list, empty_held, status_of, EndsWhole, EndsBetween, EndsWithin, HasRowsOf, IsSettled, AreLeft, IsBetween, IsShort}
+use Rattle.agg_session.proofs.ServingLaws.{settled-more}
+use Rattle.agg_session.proofs.StoppingLaws.{not_begun}
+use Rattle.agg_session.proofs.TakingLaws.{untaken}
 
 pub nothing_cut : (limit : ℕ) → (next_cut (record { limit = limit; left = [] })).0 ≡ None
 unfolding next_cut
 nothing_cut limit = refl
 
+no_file : (P : List ℕ → Type 0) (o : Option (List ℕ)) → o ≡ None → IfSome o P
+no_file P None e = tt
+no_file P (Some b) e = cc
+
+-- a disk with no file
+nothing_there : (list : ChangeList) (names : List FileName) (f : Files) → names ≡ [] → f ≡ empty → HasExactly list names f
+nothing_there list names f none is = subst (HasExactly list names) (sym is) (record {
+  stand = subst (λ (ns : List FileName). All (HasFile list empty) ns) (sym none) (All-nil (HasFile list empty));
+  only = λ name named. no_file (λ _. Contains names name) (get empty (spelled name)) (get-empty (slice_cmp nat_cmp) (spelled name));
+  no_temporary = λ name named. get-empty (slice_cmp nat_cmp) (temporary_of name);
+})
+
+nothing_kept : (list : ChangeList) (f : Files) → f ≡ empty → KeepsNamed list f
+nothing_kept list f is = subst (KeepsNamed list) (sym is) (record {
+  named = λ name named. no_file _ (get empty (spelled name)) (get-empty (slice_cmp nat_cmp) (spelled name));
+  temporary = λ name named. no_file _ (get empty (temporary_of name)) (get-empty (slice_cmp nat_cmp) (temporary_of name));
+})
+
 -- an empty keeper has the rows of the empty list
-pub holds_nothing : {D K : Type 0} (files : D → Option Files) (held : K → Option Held) (store : Store D K) (size : ℕ) → 1 ≤ size → size ≤ 2 ^ 32 → held store.keeper ≡ Some empty_held → store.next ≡ 0 → store.content ≡ 0 → store.size ≡ size → store.files ≡ [] → ForSome (files store.disk) (λ f. f ≡ empty) → Holds files held store (empty_list size)
+holds_nothing : {D K : Type 0} (disk : DiskGhosts D) (keeper : KeeperGhosts K) (store : Store D K) (size : ℕ) → 1 ≤ size → size ≤ 2 ^ 32 → keeper.held store.keeper ≡ Some empty_held → store.next ≡ 0 → store.content ≡ 0 → store.size ≡ size → store.files ≡ [] → ForSome (disk.files store.disk) (λ f. f ≡ empty) → Holds disk keeper store (empty_list size)
 unfolding rows_of arranged
-holds_nothing files held store size from_one within rows next content is none nothing = record {
+holds_nothing disk keeper store size from_one within rows next content is none nothing = record {
   valid = record {
     size_from_one = from_one;
     size_within = within;
@@ -52,20 +89,20 @@ holds_nothing files held store size from_one within rows next content is none no
   size = is;
   complete = rw none (no_steps size);
   read = rw none refl;
-  disk = λ f told. rw none (nothing f told);
+  stand = λ f told. subst (λ n. HasExactly (empty_list size) (held_names n) f) (sym (ap length none)) (nothing_there (empty_list size) (held_names 0) f written-none (nothing f told));
 }
   where
     no_steps : (n : ℕ) → 0 * n ≤ 0
     no_steps n = omega arith
 
 -- a store as it is made
-pub holds_new : {D K : Type 0} (files : D → Option Files) (held : K → Option Held) (store : Store D K) (disk : D) (keeper : K) (size : ℕ) → store ≡ record { disk = disk; keeper = keeper; files = []; next = 0; content = 0; size = size } → 1 ≤ size → size ≤ 2 ^ 32 → held keeper ≡ Some empty_held → ForSome (files disk) (λ f. f ≡ empty) → Holds files held store (empty_list size)
-holds_new files held store disk keeper size is from_one within rows nothing =
-    subst (λ (x : Store _ _). Holds files held x (empty_list size)) (sym is)
-    (holds_nothing files held (record { disk = disk; keeper = keeper; files = []; next = 0; content = 0; size = size }) size from_one within rows refl refl refl refl nothing)
+pub holds_new : {D K : Type 0} (disk : DiskGhosts D) (keeper : KeeperGhosts K) (store : Store D K) (files_at : D) (rows_at : K) (size : ℕ) → store ≡ record { disk = files_at; keeper = rows_at; files = []; next = 0; content = 0; size = size } → 1 ≤ size → size ≤ 2 ^ 32 → keeper.held rows_at ≡ Some empty_held → ForSome (disk.files files_at) (λ f. f ≡ empty) → Holds disk keeper store (empty_list size)
+holds_new disk keeper store files_at rows_at size is from_one within rows nothing =
+    subst (λ (x : Store _ _). Holds disk keeper x (empty_list size)) (sym is)
+    (holds_nothing disk keeper (record { disk = files_at; keeper = rows_at; files = []; next = 0; content = 0; size = size }) size from_one within rows refl refl refl refl nothing)
 
-pub first_answered : {D K : Type 0} (files : D → Option Files) (held : K → Option Held) (limits : Limits) (served : Served D K) (size : ℕ) (out : Option (List ℕ)) → served.lines ≡ 0 → served.cut ≡ record { limit = limits.line; left = [] } → served.session.link ≡ fresh → Holds files held served.session.store (empty_list size) → IsAnswered files held limits served out out (starting (empty_list size)) []
-first_answered files held limits served size out lines cut link holds =
+pub first_answered : {D K : Type 0} (disk : DiskGhosts D) (keeper : KeeperGhosts K) (limits : Limits) (served : Served D K) (size : ℕ) (out : Option (List ℕ)) → served.lines ≡ 0 → served.cut ≡ record { limit = limits.line; left = [] } → served.session.link ≡ first_link → Holds disk keeper served.session.store (empty_list size) → IsAnswered disk keeper limits served out out (starting (empty_list size)) []
+first_answered disk keeper limits served size out lines cut link holds =
     let left : [] ≡ served.cut.left = ap (λ (u : Uncut). u.left) (sym cut) in
     record {
       lines = [];
@@ -76,13 +113,14 @@ first_answered files held limits served size out lines cut link holds =
           list = holds;
           link = record {
             pending = ap (λ l. l.pending) link;
-            now = ap (λ l. l.now) link;
+            current = ap (λ l. l.current) link;
             opens = ap (λ l. l.opens) link;
             transactions = ap (λ (l : Link). map opened_as l.transactions) link;
           };
           views = All-nil (IsView (empty_list size));
         };
         written = λ before told. told ∙ ap Some (sym (append-nil before));
+        settled = tt;
       };
     }
 
@@ -97,70 +135,77 @@ at_end ends.Keeper e = cc
 at_end ends.Long e = cc
 at_end ends.Memory e = cc
 
-pub between : (end : LinkEnd) → IsBetween (status_of end) → (end ≡ ends.Source) ⊎ (end ≡ ends.Long)
-between ends.Source e = inl refl
-between ends.Long e = inr refl
-between ends.Done (inl e) = cc
-between ends.Done (inr e) = cc
-between ends.Sink (inl e) = cc
-between ends.Sink (inr e) = cc
-between ends.Disk (inl e) = cc
-between ends.Disk (inr e) = cc
-between ends.Keeper (inl e) = cc
-between ends.Keeper (inr e) = cc
-between ends.Memory (inl e) = cc
-between ends.Memory (inr e) = cc
+pub between : (most : ℕ) (left_old left : Option (List ℕ)) (end : LinkEnd) → IsBetween most left_old left (status_of end) → (end ≡ ends.Source) ⊎ (end ≡ ends.Long)
+between most left_old left ends.Source is = inl refl
+between most left_old left ends.Long is = inr refl
+between most left_old left ends.Done is = absurd is
+between most left_old left ends.Sink is = absurd is
+between most left_old left ends.Disk is = absurd is
+between most left_old left ends.Keeper is = absurd is
+between most left_old left ends.Memory is = absurd is
 
-pub cut_short : (end : LinkEnd) → (status_of end ≡ status.Done → ⊥) → end ≡ ends.Done → ⊥
-cut_short end never is = never (ap status_of is)
+-- a keeper that tells the rows of a list
+rows_told : (held : Option Held) (list : ChangeList) → held ≡ Some (held_for list.changes) → HasRowsOf held list
+rows_told held list is = subst (λ o. HasRowsOf o list) (sym is) (has_rows list)
 
-module _ {D K : Type 0} (files : D → Option Files) (held : K → Option Held) (limits : Limits) (old last : Served D K) (size : ℕ) (out_old out left_old left : Option (List ℕ)) where
+module _ {D K : Type 0} (disk : DiskGhosts D) (keeper : KeeperGhosts K) (limits : Limits) (old last : Served D K) (size : ℕ) (out_old out left_old left : Option (List ℕ)) where
   -- the run begins with the empty list
   abbrev pub Begins : Type 0
-  Begins = IsAnswered files held limits old out_old out_old (starting (empty_list size)) []
+  Begins = IsAnswered disk keeper limits old out_old out_old (starting (empty_list size)) []
 
   -- all was answered, and all complete steps were put in files
-  pub ends_whole : (store : Store D K) → ((list : ChangeList) → Holds files held last.session.store list → IsSettled files held store list) → Begins → ServesAll files held limits old last out_old out left_old left → EndsWhole limits (empty_list size) left_old left out_old out (held store.keeper) (files store.disk)
+  pub ends_whole : (store : Store D K) → ((list : ChangeList) → Holds disk keeper last.session.store list → IsSettled disk keeper store list) → Begins → ServesAll disk keeper limits old last out_old out left_old left → EndsWhole limits (empty_list size) left_old left out_old out (keeper.held store.keeper) (disk.files store.disk)
   ends_whole store settles begins s =
       let all = s.answers (starting (empty_list size)) out_old begins in
-      let settled = settles (after limits (empty_list size) s.text) all.stands.list in
+      let list : ChangeList = after limits (empty_list size) s.text in
+      let settled : IsSettled disk keeper store list = settles list all.stands.list in
       record {
         text = s.text;
         is_taken = s.is_taken;
         all = s.all;
         within = s.within;
         written = all.written;
-        rows = settled.holds.rows;
-        stand = λ f told.
-            settled.holds.disk f told
-            ∙ ap (λ n. files_named (after limits (empty_list size) s.text) (step_names n)) settled.all;
+        rows = rows_told (keeper.held store.keeper) list settled.holds.rows;
+        stand = λ f told. subst (λ n. HasExactly list (held_names n) f) settled.all (settled.holds.stand f told);
       }
 
   -- what is left of the store, where keeper and disk tell
-  left_of : (store : Store D K) (list : ChangeList) → Keeps files held store list → AreLeft (held store.keeper) (files store.disk) list
-  left_of store list keeps = record { rows = keeps.rows; stand = keeps.disk }
+  pub left_of : (store : Store D K) (list : ChangeList) → Keeps disk keeper store list → AreLeft (keeper.held store.keeper) (disk.files store.disk) list
+  left_of store list keeps = record { rows = keeps.rows; kept = λ f told. (keeps.stand f told).kept }
 
-  pub ends_between : (store : Store D K) → store ≡ last.session.store → Begins → ServesEnded files held limits old last out_old out left_old left → EndsBetween limits (empty_list size) left_old left out_old out (held store.keeper) (files store.disk)
+  -- and the steps that it covers
+  pub covered_by : (store : Store D K) (list : ChangeList) → Keeps disk keeper store list → ForSome (disk.files store.disk) (Covers (steps_held store))
+  covered_by store list keeps = λ f told.
+      covers list (steps_held store) f (held_small list (steps_held store) keeps.valid keeps.complete) (keeps.stand f told).held
+
+  pub ends_between : (store : Store D K) → store ≡ last.session.store → Begins → ServesEnded disk keeper limits old last out_old out left_old left → EndsBetween limits (empty_list size) left_old left out_old out (keeper.held store.keeper) (disk.files store.disk)
   ends_between store same begins s =
       let all = s.answers (starting (empty_list size)) out_old begins in
-      let list = (state_after limits 1 (ended_lines limits.line s.text) (starting (empty_list size))).list in
+      let lines : List Piece = ended_lines limits.line s.text in
+      let list : ChangeList = (state_after limits 1 lines (starting (empty_list size))).list in
+      let keeps : Keeps disk keeper store list = subst (λ (x : Store D K). Keeps disk keeper x list) (sym same) (kept disk keeper last.session.store list all.stands.list) in
       record {
         text = s.text;
         is_taken = s.is_taken;
         within = s.within;
         written = all.written;
-        kept = left_of store list (subst (λ (x : Store D K). Keeps files held x list) (sym same) (kept files held last.session.store list all.stands.list));
+        kept = left_of store list keeps;
+        steps = steps_held store;
+        settled = subst (λ (x : Store D K). AreSettled limits 1 lines (starting (empty_list size)) (steps_held x)) (sym same) all.settled;
+        covered = covered_by store list keeps;
       }
 
-  pub ends_within : (store : Store D K) → store ≡ last.session.store → Begins → ServesPart files held limits old last out_old out left_old left → EndsWithin limits (empty_list size) left_old left out_old out (held store.keeper) (files store.disk)
+  pub ends_within : (store : Store D K) → store ≡ last.session.store → Begins → ServesPart disk keeper limits old last out_old out left_old left → EndsWithin limits (empty_list size) left_old left out_old out (keeper.held store.keeper) (disk.files store.disk)
   ends_within store same begins s =
       let part = s.answers (starting (empty_list size)) out_old begins in
+      let keeps : Keeps disk keeper store part.list = subst (λ (x : Store D K). Keeps disk keeper x part.list) (sym same) part.kept in
       record {
         text = s.text;
         is_taken = s.is_taken;
         within = s.within;
         lines = s.lines;
         due = s.due;
+        steps = steps_held store;
         partway = record {
           answered = part.answered;
           rest = part.rest;
@@ -169,22 +214,26 @@ module _ {D K : Type 0} (files : D → Option Files) (held : K → Option Held) 
           list = part.list;
           begun = part.begun;
           written = part.written;
-          kept = left_of store part.list (subst (λ (x : Store D K). Keeps files held x part.list) (sym same) part.kept);
+          settled = subst (λ (x : Store D K). AreSettled limits 1 part.answered (starting (empty_list size)) (steps_held x)) (sym same) part.settled;
+          kept = left_of store part.list keeps;
         };
+        covered = covered_by store part.list keeps;
       }
 
   -- all was answered, and not all complete steps were put in files
-  pub ends_settling : (store : Store D K) → ((list : ChangeList) → Holds files held last.session.store list → Keeps files held store list) → Begins → ServesAll files held limits old last out_old out left_old left → EndsWithin limits (empty_list size) left_old left out_old out (held store.keeper) (files store.disk)
-  ends_settling store keeps begins s =
+  pub ends_settling : (store : Store D K) → ((list : ChangeList) → Holds disk keeper last.session.store list → Keeps disk keeper store list) → steps_held last.session.store ≤ steps_held store → Begins → ServesAll disk keeper limits old last out_old out left_old left → EndsWithin limits (empty_list size) left_old left out_old out (keeper.held store.keeper) (disk.files store.disk)
+  ends_settling store keep more begins s =
       let all = s.answers (starting (empty_list size)) out_old begins in
-      let lines = pieces_of limits.line s.text in
+      let lines : List Piece = pieces_of limits.line s.text in
       let end = state_after limits 1 lines (starting (empty_list size)) in
+      let keeps : Keeps disk keeper store end.list = keep end.list all.stands.list in
       record {
         text = s.text;
         is_taken = s.is_taken;
         within = below s.within;
         lines = lines;
         due = inr (s.all, refl);
+        steps = steps_held store;
         partway = record {
           answered = lines;
           rest = [];
@@ -193,12 +242,54 @@ module _ {D K : Type 0} (files : D → Option Files) (held : K → Option Held) 
           list = end.list;
           begun = (refl, refl);
           written = λ before told. all.written before told ∙ ap Some (sym (append-nil (before ++ joined (replies limits 1 lines (starting (empty_list size))))));
-          kept = left_of store end.list (keeps end.list all.stands.list);
+          settled = settled-more limits 1 lines (starting (empty_list size)) (steps_held last.session.store) (steps_held store) more all.settled;
+          kept = left_of store end.list keeps;
         };
+        covered = covered_by store end.list keeps;
       }
     where
       below : {a b : ℕ} → a < b → a ≤ b
       below h = omega arith
+
+-- a run whose words couldn't be read: nothing was taken, and nothing written
+pub ends_unread : (limits : Limits) (size : ℕ) (left out : Option (List ℕ)) (held : Option Held) (files : Option Files) → held ≡ Some empty_held → ForSome files (λ f. f ≡ empty) → EndsWithin limits (empty_list size) left left out out held files
+unfolding rows_of arranged
+ends_unread limits size left out held files rows nothing = record {
+  text = [];
+  is_taken = untaken left left refl;
+  within = omega arith;
+  lines = ended_lines limits.line [];
+  due = inl refl;
+  steps = 0;
+  partway = record {
+    answered = [];
+    rest = ended_lines limits.line [];
+    lines_are = refl;
+    part = [];
+    list = empty_list size;
+    begun = not_begun limits 1 (ended_lines limits.line []) (starting (empty_list size));
+    written = λ before told. told ∙ ap Some (sym (append-nil before) ∙ sym (append-nil (before ++ [])));
+    settled = tt;
+    kept = record { rows = rows_told held (empty_list size) rows; kept = λ f told. nothing_kept (empty_list size) f (nothing f told) };
+  };
+  covered = λ f told e k step built below. absurd (none_below step below);
+}
+  where
+    none_below : (n : ℕ) → n < 0 → ⊥
+    none_below n h = omega arith
+
+-- ---- what the run hands back
+
+-- what is told of the store is told of its parts
+pub parted : {D K : Type 0} (disk : DiskGhosts D) (keeper : KeeperGhosts K) (store : Store D K) (files_at : D) (rows_at : K) (P : Option Held → Option Files → Type 0) → files_at ≡ store.disk → rows_at ≡ store.keeper → P (keeper.held store.keeper) (disk.files store.disk) → P (keeper.held rows_at) (disk.files files_at)
+parted disk keeper store files_at rows_at P files_are rows_are h =
+    subst (λ k. P (keeper.held k) (disk.files files_at)) (sym rows_are) (subst (λ d. P (keeper.held store.keeper) (disk.files d)) (sym files_are) h)
+
+-- names outside the grammar
+pub outside_through : {D K : Type 0} (disk : DiskGhosts D) (keeper : KeeperGhosts K) (first mid last : Store D K) (files_at after_at : D) → first.disk ≡ files_at → after_at ≡ last.disk → Goes disk keeper first mid → Goes disk keeper mid last → SameOutside (disk.files files_at) (disk.files after_at)
+outside_through disk keeper first mid last files_at after_at was is one two =
+    subst (λ d. SameOutside (disk.files files_at) (disk.files d)) (sym is)
+    (subst (λ d. SameOutside (disk.files d) (disk.files last.disk)) was (goes-trans disk keeper first mid last one two).outside)
 
 -- whether a link was read to its end
 pub is_done : (end : LinkEnd) → (end ≡ ends.Done) ⊎ (end ≡ ends.Done → ⊥)
@@ -225,6 +316,8 @@ complete status.KeeperFault usage source sink disk keeper long = absurd (keeper 
 complete status.Memory usage source sink disk keeper long = inr refl
 complete status.Long usage source sink disk keeper long = absurd (long refl)
 
+-- ---- what was taken
+
 -- fewer bytes were taken than may be
 not_long : (left : Option (List ℕ)) (most : ℕ) (input : List ℕ) → EndsLong most input left → IsSomeAnd left (λ rest. length input < most + length rest) → ⊥
 not_long None most input long few = few
@@ -233,3 +326,48 @@ not_long (Some rest) most input long few = omega (arith, long, few)
 pub short_run : (left_old left : Option (List ℕ)) (most : ℕ) → ForSome left_old (λ input. EndsLong most input left) → IsShort most left_old left → ⊥
 short_run None left most long short = short
 short_run (Some input) left most long short = not_long left most input (long input refl) short
+
+-- ---- what the words ask for
+
+-- what a run does at the program's limits, at the step size of its words
+pub at_run : (P : Limits → ℕ → Type 0) (limits : Limits) (words : List (List ℕ)) (size workers asked : ℕ) → limits ≡ usual_limits → command_of words ≡ Some (Run size workers) → AsksForRun words asked → P limits size → P usual_limits asked
+at_run P limits words size workers asked usual is asks h =
+    subst (λ l. P l asked) usual (subst (P limits) (same size workers asked asks.0 (sym is ∙ asks.1)) h)
+  where
+    same : (a b c d : ℕ) → Some (Run a b) ≡ Some (Run c d) → a ≡ c
+    same a b c d e = cc
+
+pub usage_of_run : (s : Status) (o : Option Command) (c : Command) → o ≡ Some c → (s ≡ status.Usage → ⊥) → (s ≡ status.Usage) ↔ (o ≡ None)
+usage_of_run s o c some never = (λ e. absurd (never e), λ none. cc)
+
+module _ (e : WordsError) (s : Status) (is : s ≡ status_of_words e) where
+  pub not_status : (t : Status) → (status.Usage ≡ t → ⊥) → (status.Memory ≡ t → ⊥) → s ≡ t → ⊥
+  not_status t usage memory was = by_words e (sym is ∙ was)
+    where
+      by_words : (w : WordsError) → status_of_words w ≡ t → ⊥
+      by_words words.Usage h = usage h
+      by_words words.Memory h = memory h
+
+  pub not_between : (most : ℕ) (left_old left : Option (List ℕ)) → IsBetween most left_old left s → ⊥
+  not_between most left_old left between = by_words e (subst (IsBetween most left_old left) is between)
+    where
+      by_words : (w : WordsError) → IsBetween most left_old left (status_of_words w) → ⊥
+      by_words words.Usage h = h
+      by_words words.Memory h = h
+
+usage_by : (e : WordsError) (s : Status) (r : Result Command WordsError) (o : Option Command) → s ≡ status_of_words e → r ≡ Err e → (r ≡ Err words.Usage) ↔ (o ≡ None) → (s ≡ status.Usage) ↔ (o ≡ None)
+usage_by words.Usage s r o is was iff = (λ u. iff.0 was, λ none. is)
+usage_by words.Memory s r o is was iff = (λ u. cc, λ none. let usage : r ≡ Err words.Usage = iff.1 none in cc)
+
+pub usage_of_words : (e : WordsError) (s : Status) (r : Result Command WordsError) (o : Option Command) → s ≡ status_of_words e → r ≡ Err e → (r ≡ Err words.Usage) ↔ (o ≡ None) → (s ≡ status.Usage) ↔ (o ≡ None)
+usage_of_words = usage_by
+
+complete_by : (e : WordsError) (s : Status) (r : Result Command WordsError) (o : Option Command) → s ≡ status_of_words e → r ≡ Err e → (r ≡ Err words.Usage) ↔ (o ≡ None) → (o ≡ None → ⊥) → (s ≡ status.Done) ⊎ (s ≡ status.Memory)
+complete_by words.Usage s r o is was iff some = absurd (some (iff.0 was))
+complete_by words.Memory s r o is was iff some = inr is
+
+pub complete_of_words : (e : WordsError) (s : Status) (r : Result Command WordsError) (o : Option Command) → s ≡ status_of_words e → r ≡ Err e → (r ≡ Err words.Usage) ↔ (o ≡ None) → (o ≡ None → ⊥) → (s ≡ status.Done) ⊎ (s ≡ status.Memory)
+complete_of_words = complete_by
+
+pub less_most : {a b : ℕ} → a < b → a ≤ b
+less_most h = omega arith

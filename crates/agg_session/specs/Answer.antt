@@ -1,5 +1,5 @@
 -- The replies of a session to a text, and the state after it.
-use Rattle.std.specs.Prelude.{◌≡◌, ◌⊎◌, ℕ, ◌+◌, List, [], ◌∷◌, ◌++◌, length, Option, Some, unwrap_or, Result, Ok, Err}
+use Rattle.std.specs.Prelude.{◌≡◌, ◌⊎◌, ◌≤◌, ℕ, ◌+◌, List, [], ◌∷◌, ◌++◌, length, Option, Some, unwrap_or, Result, Ok, Err}
 use Rattle.std.specs.Option.{ForSome}
 use Rattle.agg_model.specs.ChangeList.{ChangeList}
 use Rattle.line_words.specs.declared.request.Request.{Request}
@@ -16,35 +16,46 @@ abbrev pub read_outcome : Limits → Result Request LineError → State → Outc
 read_outcome limits (Ok request) s = outcome limits request s
 read_outcome limits (Err error) s = refused s
 
--- the state after a line, and the text of its reply
-pub record Step : Type 0 where
+-- the state after a line, and the text of its reply; and how many first steps are in files from then on
+pub record Effect : Type 0 where
   pub state : State
   pub reply : List ℕ
+  pub settled : ℕ
 
 -- what is refused gets `err syntax` and the number of the line
-abbrev pub told : ℕ → Outcome → Step
-told number o = record { state = o.state; reply = reply_text (unwrap_or o.reply (ErrSyntax number)) }
+abbrev pub effect_of : ℕ → Outcome → Effect
+effect_of number o = record {
+  state = o.state;
+  reply = reply_text (unwrap_or o.reply (ErrSyntax number));
+  settled = o.settled;
+}
 
 -- a line within the limit; an empty one has no reply
-abbrev pub short_step : Limits → ℕ → List ℕ → State → Step
-short_step limits number [] s = record { state = s; reply = [] }
-short_step limits number (b ∷ line) s = told number (read_outcome limits (request_of (b ∷ line)) s)
+abbrev pub short_effect : Limits → ℕ → List ℕ → State → Effect
+short_effect limits number [] s = record { state = s; reply = []; settled = 0 }
+short_effect limits number (b ∷ line) s = effect_of number (read_outcome limits (request_of (b ∷ line)) s)
 
 -- a line as it is cut off: one that is too long is refused
-unfoldable pub step : Limits → ℕ → Piece → State → Step
-step limits number TooLong s = told number (refused s)
-step limits number (Whole line) s = short_step limits number line s
+unfoldable pub effect : Limits → ℕ → Piece → State → Effect
+effect limits number TooLong s = effect_of number (refused s)
+effect limits number (Whole line) s = short_effect limits number line s
 
 -- the replies to lines, one for each, of which the first has the number
 abbrev pub replies : Limits → ℕ → List Piece → State → List (List ℕ)
 replies limits number [] s = []
 replies limits number (line ∷ lines) s =
-    (step limits number line s).reply ∷ replies limits (number + 1) lines (step limits number line s).state
+    (effect limits number line s).reply ∷ replies limits (number + 1) lines (effect limits number line s).state
 
 -- the state after lines
 abbrev pub state_after : Limits → ℕ → List Piece → State → State
 state_after limits number [] s = s
-state_after limits number (line ∷ lines) s = state_after limits (number + 1) lines (step limits number line s).state
+state_after limits number (line ∷ lines) s = state_after limits (number + 1) lines (effect limits number line s).state
+
+-- none of the lines says of more first steps that they are in files
+abbrev pub AreSettled : Limits → ℕ → List Piece → State → ℕ → Type 0
+AreSettled limits number [] s steps = Unit {0}
+AreSettled limits number (line ∷ lines) s steps =
+    ((effect limits number line s).settled ≤ steps) × AreSettled limits (number + 1) lines (effect limits number line s).state steps
 
 -- texts one after another
 abbrev pub joined : List (List ℕ) → List ℕ
@@ -79,12 +90,12 @@ abbrev pub IsBegun : Limits → ℕ → List Piece → State → List ℕ → Ch
 IsBegun limits number [] s part list = (part ≡ []) × (list ≡ s.list)
 IsBegun limits number (line ∷ lines) s part list =
     ((part ≡ []) × (list ≡ s.list))
-    ⊎ (BeginsWith part (step limits number line s).reply × (list ≡ (step limits number line s).state.list))
+    ⊎ (BeginsWith part (effect limits number line s).reply × (list ≡ (effect limits number line s).state.list))
 
 -- Lines from a start on are answered up to somewhere: the first of them whole, the next one in part or
--- not at all. What is written stands behind what the sink had at first, where it tells, and the list
--- that was come to is kept.
-pub record IsPartway (limits : Limits) (start : State) (lines : List Piece) (first out : Option (List ℕ)) (IsKept : ChangeList → Type 0) : Type 0 where
+-- not at all. What is written stands behind what the sink had at first, where it tells. So many first
+-- steps are in files, as the whole answers say, and the list that was come to is kept.
+pub record IsPartway (limits : Limits) (start : State) (lines : List Piece) (first out : Option (List ℕ)) (steps : ℕ) (IsKept : ChangeList → Type 0) : Type 0 where
   pub answered : List Piece
   pub rest : List Piece
   pub lines_are : lines ≡ answered ++ rest
@@ -92,4 +103,5 @@ pub record IsPartway (limits : Limits) (start : State) (lines : List Piece) (fir
   pub list : ChangeList
   pub begun : IsBegun limits (length answered + 1) rest (state_after limits 1 answered start) part list
   pub written : ForSome first (λ before. out ≡ Some ((before ++ joined (replies limits 1 answered start)) ++ part))
+  pub settled : AreSettled limits 1 answered start steps
   pub kept : IsKept list

@@ -1,10 +1,15 @@
 -- How a link ends, and whom it may blame.
-use Rattle.std.specs.Prelude.{◌≤◌, ℕ, Result, IsErrOf}
+use Rattle.std.specs.Prelude.{◌≤◌, Result, Err, IsErrOf}
 use Rattle.agg_outside.specs.Counts.{Rose}
+use Rattle.agg_outside.specs.declared.disk.Disk.{Ghosts as DiskGhosts}
+use Rattle.agg_outside.specs.declared.keeper.Keeper.{Ghosts as KeeperGhosts}
+use Rattle.agg_outside.specs.declared.sink.Sink.{Ghosts as SinkGhosts}
 use Rattle.agg_outside.specs.declared.errors.SinkError.{SinkError}
 use Rattle.agg_outside.specs.declared.errors.SinkError.TheVariants as sink
 use Rattle.plain_state.specs.declared.stop.Stop.{Stop}
 use Rattle.plain_state.specs.declared.stop.Stop.TheVariants as stops
+use Rattle.plain_state.specs.declared.store.Store.{Store}
+use Rattle.plain_state.specs.Store.{Goes}
 use Rattle.agg_session.specs.declared.ends.LinkEnd.{LinkEnd}
 use Rattle.agg_session.specs.declared.ends.LinkEnd.TheVariants as ends
 
@@ -17,24 +22,26 @@ abbrev pub end_of_sink : SinkError → LinkEnd
 end_of_sink sink.Failed = ends.Sink
 end_of_sink sink.Memory = ends.Memory
 
--- the counts of faults of disk, keeper and sink
-pub record Faults : Type 0 where
-  pub disk : ℕ
-  pub keeper : ℕ
-  pub sink : ℕ
+-- What each call of a link keeps of its devices, and whom it may blame: each only where its count of
+-- faults rose, and the source only in this case.
+pub record IsBlamed {D K O T : Type 0} (disk : DiskGhosts D) (keeper : KeeperGhosts K) (sink : SinkGhosts O) (Case : Type 0) (old new : Store D K) (out_old out : O) (result : Result T LinkEnd) : Type 0 where
+  pub goes : Goes disk keeper old new
+  pub sink_stays : sink.faults out_old ≤ sink.faults out
+  pub disk_rose : IsErrOf result ends.Disk → Rose (disk.faults old.disk) (disk.faults new.disk)
+  pub keeper_rose : IsErrOf result ends.Keeper → Rose (keeper.faults old.keeper) (keeper.faults new.keeper)
+  pub sink_rose : IsErrOf result ends.Sink → Rose (sink.faults out_old) (sink.faults out)
+  pub source_rose : IsErrOf result ends.Source → Case
 
--- the counts don't fall, and each device is blamed only where its count rose
-pub record IsBlamed {T : Type 0} (before now : Faults) (result : Result T LinkEnd) : Type 0 where
-  pub disk_stays : before.disk ≤ now.disk
-  pub keeper_stays : before.keeper ≤ now.keeper
-  pub sink_stays : before.sink ≤ now.sink
-  pub disk : IsErrOf result ends.Disk → Rose before.disk now.disk
-  pub keeper : IsErrOf result ends.Keeper → Rose before.keeper now.keeper
-  pub sink : IsErrOf result ends.Sink → Rose before.sink now.sink
-  -- the other ends have no place here
-  pub other : IsErrOf result ends.Done → ⊥
-  pub source : IsErrOf result ends.Source → ⊥
-  pub long : IsErrOf result ends.Long → ⊥
+-- something was wanting: the link neither came to its end nor to its limit
+abbrev pub IsWant : LinkEnd → Type 0
+IsWant ends.Done = ⊥
+IsWant ends.Source = Unit {0}
+IsWant ends.Sink = Unit {0}
+IsWant ends.Disk = Unit {0}
+IsWant ends.Keeper = Unit {0}
+IsWant ends.Long = ⊥
+IsWant ends.Memory = Unit {0}
 
-abbrev pub faults_of : ℕ → ℕ → ℕ → Faults
-faults_of disk keeper sink = record { disk = disk; keeper = keeper; sink = sink }
+-- a link that ended so, as what a call answers that has nothing else to answer
+abbrev pub ended_by : LinkEnd → Result (Unit {0}) LinkEnd
+ended_by end = Err end

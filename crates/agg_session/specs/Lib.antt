@@ -3,6 +3,7 @@ pub mod Answer
 pub mod Links
 pub mod Running
 pub mod Ends
-pub mod Top
+pub mod Statuses
 pub mod Served
 pub mod Written
+pub mod Top

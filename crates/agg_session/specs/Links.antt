@@ -1,5 +1,5 @@
 -- When a link's fields are in order, and which state they stand for.
-use Rattle.std.specs.Prelude.{◌≡◌, ℕ, ◌*◌, ◌<◌, ◌≤◌, ◌^◌, List, [], ◌∷◌, map, length, Option, Some, None, unwrap_or, slice_get, remove, ◌==◌, if◌then◌else◌, All}
+use Rattle.std.specs.Prelude.{◌≡◌, ℕ, ◌<◌, ◌≤◌, List, [], ◌∷◌, map, length, Option, Some, None, unwrap_or, slice_get, remove, ◌==◌, if◌then◌else◌, All}
 use Rattle.agg_model.specs.Batch.{IsBatch, content_of}
 use Rattle.agg_model.specs.declared.change.Change.{Change}
 use Rattle.agg_session.specs.declared.limits.Limits.{Limits}
@@ -7,22 +7,17 @@ use Rattle.agg_session.specs.declared.link.Link.{Link}
 use Rattle.agg_session.specs.declared.link.Transaction.{Transaction}
 use Rattle.agg_session.specs.State.{State, Opening}
 
--- the limits of a program that adds without a check
-pub record AreLimits (limits : Limits) : Type 0 where
-  pub content : limits.content ≤ 2 ^ 28
-  pub bytes : limits.bytes ≤ 2 ^ 40
-
 -- with numbers below far
 pub record IsLink (limits : Limits) (far : ℕ) (link : Link) : Type 0 where
-  pub held : link.held ≡ content_of link.pending
-  pub within : link.held ≤ limits.content
+  pub content : link.content ≡ content_of link.pending
+  pub within : link.content ≤ limits.content
   pub pending : IsBatch 0 far link.pending
-  pub latest_first : All (λ (c : Change). c.tx ≤ unwrap_or link.now 0) link.pending
-  pub near : unwrap_or link.now 0 < far
+  pub latest_first : All (λ (c : Change). c.tx ≤ unwrap_or link.current 0) link.pending
+  pub near : unwrap_or link.current 0 < far
 
 -- a link before its first line
-abbrev pub fresh : Link
-fresh = record { pending = []; held = 0; now = None; opens = 0; transactions = [] }
+abbrev pub first_link : Link
+first_link = record { pending = []; content = 0; current = None; opens = 0; transactions = [] }
 
 -- the transaction of the number, where it is open
 abbrev pub open_of : ℕ → List Transaction → Option Transaction
@@ -30,34 +25,30 @@ open_of number [] = None
 open_of number (t ∷ ts) = if t.number == number then Some t else open_of number ts
 
 -- the transactions without the first of this number
-abbrev pub others : ℕ → List Transaction → List Transaction
-others number [] = []
-others number (t ∷ ts) = if t.number == number then ts else t ∷ others number ts
+abbrev pub transactions_without : ℕ → List Transaction → List Transaction
+transactions_without number [] = []
+transactions_without number (t ∷ ts) = if t.number == number then ts else t ∷ transactions_without number ts
 
 -- the transaction at the place is the first of this number
 pub record IsPlaceOf (number : ℕ) (ts : List Transaction) (i : ℕ) : Type 0 where
   pub within : i < length ts
   pub there : open_of number ts ≡ slice_get ts i
-  pub rest : others number ts ≡ remove ts i
+  pub rest : transactions_without number ts ≡ remove ts i
 
--- a transaction reads files that are there, and only those of complete steps below its next number
-abbrev pub HasFiles : ℕ → ℕ → Transaction → Type 0
-HasFiles files size t = (t.files ≤ files) × (t.files * size ≤ t.at)
-
--- an open transaction, apart from the files that it reads
+-- an open transaction, apart from what it keeps of the store
 pub record Opened : Type 0 where
   pub number : ℕ
-  pub at : ℕ
+  pub next : ℕ
 
 abbrev pub opened_as : Transaction → Opened
-opened_as t = record { number = t.number; at = t.at }
+opened_as t = record { number = t.number; next = t.view.next }
 
 abbrev pub opened_of : Opening → Opened
-opened_of o = record { number = o.number; at = o.list.next }
+opened_of o = record { number = o.number; next = o.list.next }
 
 -- the link has what the state has beside the list
 pub record LinkStands (link : Link) (s : State) : Type 0 where
   pub pending : link.pending ≡ s.pending
-  pub now : link.now ≡ s.now
+  pub current : link.current ≡ s.current
   pub opens : link.opens ≡ s.opens
   pub transactions : map opened_as link.transactions ≡ map opened_of s.transactions

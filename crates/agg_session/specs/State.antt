@@ -1,14 +1,13 @@
 -- What a session is between two lines, and what each request makes of it.
-use Rattle.std.specs.Prelude.{ℕ, ◌+◌, ◌*◌, Bool, true, ◌&&◌, ◌==◌, nat_lt, nat_le, if◌then◌else◌, List, [], ◌∷◌, ◌++◌, map, length, Option, Some, None}
+use Rattle.std.specs.Prelude.{ℕ, ◌+◌, ◌*◌, Bool, true, false, ◌&&◌, ◌==◌, nat_lt, nat_le, if◌then◌else◌, List, [], ◌∷◌, ◌++◌, map, length, Option, Some, None}
 use Rattle.agg_model.specs.declared.entity.Entity.{Entity}
 use Rattle.agg_model.specs.declared.change.Act.TheVariants.{Put}
 use Rattle.agg_model.specs.declared.change.Change.{Change}
 use Rattle.agg_model.specs.Batch.{content_of}
-use Rattle.agg_model.specs.ChangeList.{ChangeList, latest, next_of, grown}
+use Rattle.agg_model.specs.ChangeList.{ChangeList, latest, next_of, grown, may_grow}
 use Rattle.agg_model.specs.Merged.{merged}
 use Rattle.merge_ranges.specs.Name.{spelled}
-use Rattle.plain_state.specs.Canonical.{canonical_names}
-use Rattle.plain_state.specs.Store.{may_grow}
+use Rattle.agg_core.specs.Names.{complete_steps, written_names}
 use Rattle.line_words.specs.declared.request.Request.{Request}
 use Rattle.line_words.specs.declared.request.Request.TheVariants as on
 use Rattle.line_words.specs.declared.reply.Reply.{Reply}
@@ -26,7 +25,7 @@ pub record State : Type 0 where
   -- the changes since the last commit
   pub pending : List Change
   -- the current number
-  pub now : Option ℕ
+  pub current : Option ℕ
   -- how many transactions were opened
   pub opens : ℕ
   -- those that are open, in the order in which they were opened
@@ -34,18 +33,20 @@ pub record State : Type 0 where
 
 -- where a session begins
 abbrev pub starting : ChangeList → State
-starting list = record { list = list; pending = []; now = None; opens = 0; transactions = [] }
+starting list = record { list = list; pending = []; current = None; opens = 0; transactions = [] }
 
--- the state after a request, and its reply, which a refused one has not
+-- the state after a request, and its reply, which a refused one has not; and how many first steps are
+-- in files from then on
 pub record Outcome : Type 0 where
   pub state : State
   pub reply : Option Reply
+  pub settled : ℕ
 
 abbrev pub accepted : State → Reply → Outcome
-accepted s reply = record { state = s; reply = Some reply }
+accepted s reply = record { state = s; reply = Some reply; settled = 0 }
 
 abbrev pub refused : State → Outcome
-refused s = record { state = s; reply = None }
+refused s = record { state = s; reply = None; settled = 0 }
 
 -- the first number that is too far
 abbrev pub far_of : ChangeList → ℕ
@@ -58,7 +59,7 @@ is_above n (Some m) = nat_lt m n
 -- `tx N`: the number is above the current one, and not too far
 abbrev pub number_on : ℕ → State → Outcome
 number_on n s =
-    if nat_lt n (far_of s.list) && is_above n s.now then accepted (record s { now = Some n }) says.Ok
+    if nat_lt n (far_of s.list) && is_above n s.current then accepted (record s { current = Some n }) says.Ok
     else refused s
 
 -- a change joins the pending ones, where their content stays within the limit
@@ -75,7 +76,7 @@ put_on limits (Some n) e k v s = change_on limits (record { tx = n; entity = e; 
 
 -- the pending changes and the current number go, whatever a commit replies
 abbrev pub cleared : State → State
-cleared s = record s { pending = []; now = None }
+cleared s = record s { pending = []; current = None }
 
 abbrev pub may_commit : Limits → State → Bool
 may_commit limits s = may_grow limits.content s.list s.pending
@@ -99,14 +100,14 @@ abbrev pub list_at : ℕ → List Opening → Option ChangeList
 list_at t [] = None
 list_at t (o ∷ os) = if o.number == t then Some o.list else list_at t os
 
-abbrev pub without : ℕ → List Opening → List Opening
-without t [] = []
-without t (o ∷ os) = if o.number == t then os else o ∷ without t os
+abbrev pub openings_without : ℕ → List Opening → List Opening
+openings_without t [] = []
+openings_without t (o ∷ os) = if o.number == t then os else o ∷ openings_without t os
 
 -- `close T`: the transaction is open, and is open no longer
 abbrev pub close_on : ℕ → Option ChangeList → State → Outcome
 close_on t None s = refused s
-close_on t (Some list) s = accepted (record s { transactions = without t s.transactions }) says.Ok
+close_on t (Some list) s = accepted (record s { transactions = openings_without t s.transactions }) says.Ok
 
 abbrev pub value_reply : Option (List ℕ) → Reply
 value_reply None = says.NoValue
@@ -119,12 +120,16 @@ latest_on (Some list) e k s = accepted s (value_reply (latest list e k))
 
 -- `settle`: all complete steps are in files, which are named
 abbrev pub settle_on : State → Outcome
-settle_on s = accepted s (says.Files (map spelled (canonical_names s.list)))
+settle_on s = record {
+  state = s;
+  reply = Some (says.Files (map spelled (written_names s.list)));
+  settled = complete_steps s.list;
+}
 
 -- the outcome of a request
 abbrev pub outcome : Limits → Request → State → Outcome
 outcome limits (on.Tx n) s = number_on n s
-outcome limits (on.Put e k v) s = put_on limits s.now e k v s
+outcome limits (on.Put e k v) s = put_on limits s.current e k v s
 outcome limits on.Commit s = commit_on limits s
 outcome limits on.Open s = open_on limits s
 outcome limits (on.Close t) s = close_on t (list_at t s.transactions) s

@@ -1,15 +1,19 @@
 ghost use Rattle.std.specs.Prelude.{◌≤◌, ◌^◌, Some};
 
-use crate::tests::{FIRST_PATH, FIRST_REPLIES, empty_keeper};
+use crate::tests::{FIRST_PATH, FIRST_REPLIES, empty_keeper, status_of_words, words_of};
 use crate::*;
 use agg_outside::*;
 use memory_side::*;
 use std::alloc::Global;
 use std::process::Abort;
+use std::rt::Clock;
+use std::sync::Wait;
 use std::test::Fail;
+use std::thread::Threads;
 
 // How a run at the usual step size ends, and how many rows it leaves.
-fn ends<I: Source, O: Sink>(
+fn ends<H: Threads + Wait + Clock + Sync, I: Source, O: Sink>(
+    rt: &H,
     alloc: Global,
     limits: &Limits,
     keeper_fails: &[u64],
@@ -21,7 +25,7 @@ fn ends<I: Source, O: Sink>(
 {
     let keeper = empty_keeper(alloc, keeper_fails)?;
     let disk = SureDisk::new(alloc, &FileMap::new(alloc))?;
-    let ended = run_plain(alloc, disk, keeper, 1_562_500, limits, source, sink);
+    let ended = run_plain(rt, alloc, disk, keeper, 1_562_500, limits, source, sink);
     Ok((ended.status, ended.keeper.rows().len()))
 }
 
@@ -30,7 +34,7 @@ fn a_source_that_fails_leaves_the_replies_to_whole_lines(rt: HostRuntime) -> Res
     let alloc = rt.alloc();
     let mut source = MemSource::new(alloc, b"tx 1\nput acc", &[2])?;
     let mut sink = SureSink::new(alloc, &[])?;
-    let end = ends(alloc, &Limits::usual(), &[], &mut source, &mut sink)?;
+    let end = ends(&rt, alloc, &Limits::usual(), &[], &mut source, &mut sink)?;
     assert_eq!(rt; end, (Status::SourceFault, 0));
     assert_eq!(rt; sink.bytes(), b"ok\n".as_slice());
     Ok(())
@@ -45,7 +49,7 @@ fn as_many_bytes_are_taken_as_may_be(rt: HostRuntime) -> Result<(), Fail> {
     };
     let mut source = SureSource::new(alloc, b"tx 0\ntx 1\n")?;
     let mut sink = SureSink::new(alloc, &[])?;
-    let end = ends(alloc, &limits, &[], &mut source, &mut sink)?;
+    let end = ends(&rt, alloc, &limits, &[], &mut source, &mut sink)?;
     assert_eq!(rt; end, (Status::Long, 0));
     assert_eq!(rt; sink.bytes(), b"ok\n".as_slice());
     Ok(())
@@ -58,7 +62,14 @@ fn a_keeper_that_fails_leaves_the_rows_of_what_was_answered(rt: HostRuntime) -> 
     for (call, rows, written) in failed {
         let mut source = SureSource::new(alloc, FIRST_PATH)?;
         let mut sink = SureSink::new(alloc, &[])?;
-        let end = ends(alloc, &Limits::usual(), &[call], &mut source, &mut sink)?;
+        let end = ends(
+            &rt,
+            alloc,
+            &Limits::usual(),
+            &[call],
+            &mut source,
+            &mut sink,
+        )?;
         assert_eq!(rt; end, (Status::KeeperFault, rows));
         assert_eq!(rt; sink.bytes(), &FIRST_REPLIES[..written]);
     }
@@ -95,7 +106,7 @@ fn a_sink_that_fails_has_a_first_part_of_the_replies(rt: HostRuntime) -> Result<
         let mut source = SureSource::new(alloc, FIRST_PATH)?;
         let sink = MemSink::new(alloc, &[], &[i as u64 + 1])?;
         let mut narrow = Narrow { sink };
-        let end = ends(alloc, &Limits::usual(), &[], &mut source, &mut narrow)?;
+        let end = ends(&rt, alloc, &Limits::usual(), &[], &mut source, &mut narrow)?;
         assert_eq!(rt; end, (Status::SinkFault, if i < 2 { 0 } else { 1 }));
         assert!(rt; FIRST_REPLIES.starts_with(narrow.sink.bytes()));
         assert_eq!(rt; narrow.sink.bytes().len(), written);
@@ -108,8 +119,27 @@ fn an_empty_input_is_answered_with_nothing(rt: HostRuntime) -> Result<(), Fail> 
     let alloc = rt.alloc();
     let mut source = SureSource::new(alloc, b"")?;
     let mut sink = SureSink::new(alloc, &[])?;
-    let end = ends(alloc, &Limits::usual(), &[], &mut source, &mut sink)?;
+    let end = ends(&rt, alloc, &Limits::usual(), &[], &mut source, &mut sink)?;
     assert_eq!(rt; end, (Status::Done, 0));
     assert_eq!(rt; sink.bytes(), b"".as_slice());
+    Ok(())
+}
+
+// Of a line that has come whole, and of which nothing more comes, the reply is written before more is
+// asked for: the first write fails, and only then the second take would.
+const WHOLE_LINE: &[u8] = b"tx 1\n";
+
+#[test]
+fn a_run_answers_a_whole_line_before_it_takes_more(rt: HostRuntime) -> Result<(), Fail> {
+    let alloc = rt.alloc();
+    let mut source = MemSource::new(alloc, WHOLE_LINE, &[2])?;
+    let mut sink = MemSink::new(alloc, &[], &[1])?;
+    let end = ends(&rt, alloc, &Limits::usual(), &[], &mut source, &mut sink)?;
+    assert_eq!(rt; end, (Status::SinkFault, 0));
+    let words = words_of(alloc, &["run"])?;
+    let mut source = MemSource::new(alloc, WHOLE_LINE, &[2])?;
+    let mut sink = MemSink::new(alloc, &[], &[1])?;
+    let status = status_of_words(&rt, alloc, words.as_slice(), &mut source, &mut sink)?;
+    assert_eq!(rt; status, Status::SinkFault);
     Ok(())
 }

@@ -6,7 +6,10 @@ use agg_outside::*;
 use memory_side::*;
 use std::alloc::Global;
 use std::process::Abort;
+use std::rt::Clock;
+use std::sync::Wait;
 use std::test::Fail;
+use std::thread::Threads;
 
 // A disk without a file, of which these calls fail.
 fn empty_disk(alloc: Global, fails: &[u64]) -> Result<MemDisk, Memory>
@@ -23,7 +26,13 @@ struct Run {
     disk: MemDisk,
 }
 
-fn run_over(alloc: Global, size: u64, fails: &[u64], text: &[u8]) -> Result<Run, Memory>
+fn run_over<H: Threads + Wait + Clock + Sync>(
+    rt: &H,
+    alloc: Global,
+    size: u64,
+    fails: &[u64],
+    text: &[u8],
+) -> Result<Run, Memory>
     requires from_one { 1 ≤ size }
     requires within { size ≤ 2 ^ 32 }
 {
@@ -32,7 +41,16 @@ fn run_over(alloc: Global, size: u64, fails: &[u64], text: &[u8]) -> Result<Run,
     let mut source = SureSource::new(alloc, text)?;
     let mut sink = SureSink::new(alloc, &[])?;
     let limits = Limits::usual();
-    let ended = run_plain(alloc, disk, keeper, size, &limits, &mut source, &mut sink);
+    let ended = run_plain(
+        rt,
+        alloc,
+        disk,
+        keeper,
+        size,
+        &limits,
+        &mut source,
+        &mut sink,
+    );
     Ok(Run {
         status: ended.status,
         replies: Bytes::of(alloc, sink.bytes())?,
@@ -68,9 +86,11 @@ fn expect_names(
     Ok(())
 }
 
-// The file, where the disk has it, has these bytes.
+// The disk has the file with these bytes.
 fn expect_bytes(rt: &impl Abort, disk: &MemDisk, name: &[u8], bytes: &[u8]) {
-    if let Some(file) = disk.files().find(name) {
+    let found = disk.files().find(name);
+    assert!(rt; found.is_some());
+    if let Some(file) = found {
         assert_eq!(rt; file.as_slice(), bytes);
     }
 }
@@ -78,7 +98,7 @@ fn expect_bytes(rt: &impl Abort, disk: &MemDisk, name: &[u8], bytes: &[u8]) {
 #[test]
 fn one_complete_step_is_kept_in_a_file(rt: HostRuntime) -> Result<(), Fail> {
     let alloc = rt.alloc();
-    let run = run_over(alloc, 4, &[], ONE_STEP)?;
+    let run = run_over(&rt, alloc, 4, &[], ONE_STEP)?;
     assert_eq!(rt; run.status, Status::Done);
     assert_eq!(rt; run.replies.as_slice(), ONE_STEP_REPLIES);
     expect_bytes(&rt, &run.disk, b"v1-accounts.0-1.kv", FIRST_FILE);
@@ -91,7 +111,7 @@ fn a_transaction_keeps_the_files_of_its_opening(rt: HostRuntime) -> Result<(), F
         b"tx 0\nput accounts aa 01\ntx 4\nput accounts bb 02\ncommit\nopen\nsettle\ntx 8\nput accounts aa 03\ntx 9\nput accounts bb 04\ncommit\nsettle\nlatest 1 accounts aa\nlatest 1 accounts bb\nopen\nlatest 2 accounts aa\nlatest 2 accounts bb\nlatest 2 accounts cc\n";
     let replies =
         b"ok\nok\nok\nok\ncommitted 2 5\nopened 1 5\nfile v1-accounts.0-1.kv\nend\nok\nok\nok\nok\ncommitted 2 10\nfile v1-accounts.0-1.kv\nfile v1-accounts.1-2.kv\nend\nvalue 01\nvalue 02\nopened 2 10\nvalue 03\nvalue 04\nnone\n";
-    let run = run_over(rt.alloc(), 4, &[], text)?;
+    let run = run_over(&rt, rt.alloc(), 4, &[], text)?;
     assert_eq!(rt; run.status, Status::Done);
     assert_eq!(rt; run.replies.as_slice(), replies.as_slice());
     Ok(())
@@ -106,18 +126,21 @@ const TWO_STEPS_REPLIES: &[u8] =
 
 // Of a run over two steps in which this call of the disk fails, as much was written, and the disk has
 // these files.
-fn expect_fault(
-    rt: &impl Abort,
+fn expect_fault<H: Abort + Threads + Wait + Clock + Sync>(
+    rt: &H,
     alloc: Global,
     call: u64,
     written: usize,
     names: &[&[u8]],
 ) -> Result<(), Fail> {
-    let run = run_over(alloc, 4, &[call], TWO_STEPS)?;
+    let run = run_over(rt, alloc, 4, &[call], TWO_STEPS)?;
     assert_eq!(rt; run.status, Status::DiskFault);
     assert_eq!(rt; run.replies.as_slice().len(), written);
     assert!(rt; TWO_STEPS_REPLIES.starts_with(run.replies.as_slice()));
-    expect_bytes(rt, &run.disk, b"v1-accounts.0-1.kv", FIRST_FILE);
+    // The first step is settled before the third call.
+    if call > 2 {
+        expect_bytes(rt, &run.disk, b"v1-accounts.0-1.kv", FIRST_FILE);
+    }
     expect_names(rt, alloc, &run.disk, names)
 }
 
@@ -141,7 +164,7 @@ fn a_disk_that_fails_leaves_the_files_of_whole_steps(rt: HostRuntime) -> Result<
 #[test]
 fn the_end_of_the_input_settles_too(rt: HostRuntime) -> Result<(), Fail> {
     let alloc = rt.alloc();
-    let run = run_over(alloc, 4, &[], TWO_STEPS)?;
+    let run = run_over(&rt, alloc, 4, &[], TWO_STEPS)?;
     assert_eq!(rt; run.status, Status::Done);
     assert_eq!(rt; run.replies.as_slice(), TWO_STEPS_REPLIES);
     expect_bytes(&rt, &run.disk, b"v1-accounts.1-2.kv", SECOND_FILE);
@@ -209,12 +232,17 @@ fn files_and_rows_answer_as_rows_alone(rt: HostRuntime) -> Result<(), Fail> {
     let alloc = rt.alloc();
     let settled = transactions(alloc, true)?;
     let plain = transactions(alloc, false)?;
-    let files = run_over(alloc, 8, &[], settled.as_slice())?;
-    let rows = run_over(alloc, 1_562_500, &[], plain.as_slice())?;
+    let files = run_over(&rt, alloc, 8, &[], settled.as_slice())?;
+    let rows = run_over(&rt, alloc, 1_562_500, &[], plain.as_slice())?;
     assert_eq!(rt; files.status, Status::Done);
+    assert_eq!(rt; rows.status, Status::Done);
     assert_eq!(rt; files.disk.files().len(), 40);
     assert_eq!(rt; rows.disk.files().len(), 0);
     let kept = without_files(alloc, files.replies.as_slice())?;
     assert_eq!(rt; kept.as_slice(), rows.replies.as_slice());
+    // As the plain list of changes gives them, worked out apart.
+    let replies = rows.replies.as_slice();
+    assert_eq!(rt; replies.len(), 14_152);
+    assert!(rt; replies.ends_with(b"opened 300 320\nvalue 48\nok\n".as_slice()));
     Ok(())
 }

@@ -3,11 +3,12 @@ ghost use Rattle.std.specs.Prelude.{◌≡◌, ◌+◌, ◌<◌, ◌≤◌, ◌^
 ghost use Rattle.std.specs.Bool.{OnTrue, OnFalse};
 ghost use Rattle.agg_model.specs.Batch.{content_of, value_length};
 ghost use Rattle.agg_session.specs.State.{is_above};
-ghost use Rattle.agg_session.specs.Links.{open_of, others, IsPlaceOf};
+ghost use Rattle.agg_session.specs.Links.{open_of, transactions_without, IsPlaceOf};
 
 use crate::limits::Limits;
 use agg_model::{Act, Batch, Change};
 use agg_outside::{ListOf, Memory};
+use plain_state::View;
 use std::alloc::Global;
 use std::mem;
 
@@ -16,10 +17,8 @@ use std::mem;
 pub struct Transaction {
     /// Its number on this link, from 1.
     pub number: u64,
-    /// The next transaction number as it was opened: it reads the changes below.
-    pub at: u64,
-    /// How many files there were as it was opened: it reads these, and rows from their end on.
-    pub files: usize,
+    /// What it reads of the store.
+    pub view: View,
 }
 
 /// What a link keeps between two lines.
@@ -28,9 +27,9 @@ pub struct Link {
     /// The changes since the last commit.
     pub pending: Batch,
     /// The content of the pending changes.
-    pub held: u64,
+    pub content: u64,
     /// The current transaction number.
-    pub now: Option<u64>,
+    pub current: Option<u64>,
     /// How many transactions were opened.
     pub opens: u64,
     /// Those that are open, in the order in which they were opened.
@@ -38,16 +37,16 @@ pub struct Link {
 }
 
 impl Link {
-    ghost use Rattle.agg_session.specs.Links.{fresh};
+    ghost use Rattle.agg_session.specs.Links.{first_link};
 
     /// Takes no memory.
     pub fn new(alloc: Global) -> Link
-        ensures { result ≡ fresh }
+        ensures { result ≡ first_link }
     {
         Link {
             pending: Batch::new(alloc),
-            held: 0,
-            now: None,
+            content: 0,
+            current: None,
             opens: 0,
             transactions: ListOf::new(alloc),
         }
@@ -56,14 +55,14 @@ impl Link {
     /// Makes `number` the current one, and answers whether it could: it has to be above the
     /// current one and below `far`.
     pub fn set_number(&mut self, number: u64, far: u64) -> bool
-        ensures could { result ≡ (nat_lt number far && is_above number self.old.now) }
-        ensures set { OnTrue result (self.new ≡ record self.old { now = Some number }) }
+        ensures could { result ≡ (nat_lt number far && is_above number self.old.current) }
+        ensures set { OnTrue result (self.new ≡ record self.old { current = Some number }) }
         ensures unchanged { OnFalse result (self.new ≡ self.old) }
     {
-        if number >= far || self.now.is_some_and(|now| number <= now) {
+        if number >= far || self.current.is_some_and(|current| number <= current) {
             return false;
         }
-        self.now = Some(number);
+        self.current = Some(number);
         true
     }
 
@@ -71,37 +70,39 @@ impl Link {
     /// Adds a change of the current number to the pending ones, and answers whether it could:
     /// their content has to stay within the limit.
     pub fn add(&mut self, change: Change, limits: &Limits) -> Result<bool, Memory>
-        requires held { self.old.held ≡ content_of self.old.pending }
-        requires within { self.old.held ≤ limits.now.content }
-        requires content { limits.now.content ≤ 2 ^ 28 }
+        requires content { self.old.content ≡ content_of self.old.pending }
+        requires within { self.old.content ≤ limits.now.content }
+        requires limit { limits.now.content ≤ 2 ^ 28 }
         requires key { length change.key ≤ 64 }
         requires value { value_length change.act ≤ 65535 }
-        ensures could { IfOk result (λ could. could ≡ nat_le (content_of (self.old.pending ++ change ∷ [])) limits.now.content) }
+        ensures could { IfOk result (λ could. could ≡ nat_le (content_of
+            (self.old.pending ++ change ∷ [])) limits.now.content) }
         ensures added { IfOk result (λ could. OnTrue could (self.new ≡ record self.old {
           pending = self.old.pending ++ change ∷ [];
-          held = content_of (self.old.pending ++ change ∷ []);
+          content = content_of (self.old.pending ++ change ∷ []);
         })) }
         ensures unchanged { IfOk result (λ could. OnFalse could (self.new ≡ self.old)) }
         ensures err { OnErr result (self.new ≡ self.old) }
     {
         let more = content_of_change(&change);
-        if self.held + more > limits.content {
+        if self.content + more > limits.content {
             return Ok(false);
         }
         self.pending.push(change)?;
-        self.held += more;
+        self.content += more;
         Ok(true)
     }
 
-    /// Opens a transaction that reads the changes below `next`, and the first `files` files; answers
-    /// its number, or none where as many are open as may be.
-    pub fn begin(&mut self, next: u64, files: usize, limits: &Limits) -> Result<Option<u64>, Memory>
+    /// Opens a transaction of this view; answers its number, or none where as many are open as may be.
+    pub fn open_transaction(&mut self, view: View, limits: &Limits) -> Result<Option<u64>, Memory>
         requires { self.old.opens < 2 ^ 63 }
-        ensures could { IfOk result (λ number. is_some number ≡ nat_lt (length self.old.transactions) limits.now.opens) }
-        ensures begun { IfOk result (λ number. IfSome number (λ n. (n ≡ self.old.opens + 1) × (self.new ≡ record self.old {
-          opens = self.old.opens + 1;
-          transactions = self.old.transactions ++ record { number = n; at = next; files = files } ∷ [];
-        }))) }
+        ensures could { IfOk result (λ number. is_some number ≡ nat_lt
+            (length self.old.transactions) limits.now.opens) }
+        ensures opened { IfOk result (λ number. IfSome number (λ n. (n ≡ self.old.opens + 1) ×
+            (self.new ≡ record self.old {
+              opens = self.old.opens + 1;
+              transactions = self.old.transactions ++ record { number = n; view = view } ∷ [];
+            }))) }
         ensures unchanged { IfOk result (λ number. IfNone number (self.new ≡ self.old)) }
         ensures err { OnErr result (self.new ≡ self.old) }
     {
@@ -109,11 +110,7 @@ impl Link {
             return Ok(None);
         }
         let number = self.opens + 1;
-        self.transactions.push(Transaction {
-            number,
-            at: next,
-            files,
-        })?;
+        self.transactions.push(Transaction { number, view })?;
         self.opens = number;
         Ok(Some(number))
     }
@@ -127,9 +124,10 @@ impl Link {
     }
 
     /// Closes a transaction, and answers whether it was open.
-    pub fn end(&mut self, number: u64) -> bool
+    pub fn close_transaction(&mut self, number: u64) -> bool
         ensures could { result ≡ is_some (open_of number self.old.transactions) }
-        ensures ended { OnTrue result (self.new ≡ record self.old { transactions = others number self.old.transactions }) }
+        ensures closed { OnTrue result
+            (self.new ≡ record self.old { transactions = transactions_without number self.old.transactions }) }
         ensures unchanged { OnFalse result (self.new ≡ self.old) }
     {
         match place_of(self.transactions.as_slice(), number) {
@@ -144,10 +142,10 @@ impl Link {
     /// Takes the pending changes, and forgets the current number.
     pub fn clear(&mut self, alloc: Global) -> Batch
         ensures batch { result ≡ self.old.pending }
-        ensures cleared { self.new ≡ record self.old { pending = []; held = 0; now = None } }
+        ensures cleared { self.new ≡ record self.old { pending = []; content = 0; current = None } }
     {
-        self.held = 0;
-        self.now = None;
+        self.content = 0;
+        self.current = None;
         mem::replace(&mut self.pending, Batch::new(alloc))
     }
 }

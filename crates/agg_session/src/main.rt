@@ -8,11 +8,9 @@ mod ends;
 #[cfg(test)]
 mod file_tests;
 mod limits;
-mod line;
 mod link;
 mod run;
 mod served;
-mod serving;
 mod session;
 mod status;
 mod taking;
@@ -20,6 +18,7 @@ mod taking;
 mod tests;
 #[cfg(test)]
 mod word_tests;
+mod writing;
 
 use agg_outside::{FileMap, KeeperStart, Keys, Memory, NoGate, Rowlist};
 pub use ends::LinkEnd;
@@ -29,15 +28,16 @@ use memory_side::{SureDisk, SureDoors, SureKeeper};
 use real_side::{StdSink, StdSource};
 pub use run::{Ended, aggregate, run_plain};
 pub use served::Served;
-pub use serving::put_all;
 pub use session::Session;
 pub use status::Status;
 use std::env;
+use std::io::ErrorKind;
 use std::process::ExitCode;
 use std::rt::{Clock, Env};
 use std::sync::Wait;
 use std::thread::Threads;
 pub use taking::serve;
+pub use writing::put_all;
 
 // Runs the command of the words over an empty disk and an empty keeper in memory.
 fn run_words<R>(rt: &R) -> Result<Status, Memory>
@@ -47,8 +47,11 @@ where
 {
     let alloc = rt.alloc();
     let mut words = Vec::new(alloc);
-    let Ok(args) = env::args(rt) else {
-        return Err(Memory);
+    let args = match env::args(rt) {
+        Ok(args) => args,
+        // A word that is no text is no command.
+        Err(error) if error.kind() == ErrorKind::InvalidData => return Ok(Status::Usage),
+        Err(_) => return Err(Memory),
     };
     for word in args.skip(1) {
         words.push(word)?;

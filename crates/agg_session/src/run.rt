@@ -1,14 +1,15 @@
 //! The top call: reads the words, and runs a session over what it is handed.
-ghost use Rattle.std.specs.Prelude.{◌≡◌, ◌⊎◌, ℕ, ◌≤◌, ◌^◌, ◌↔◌, map, None, is_some};
+ghost use Rattle.std.specs.Prelude.{◌≡◌, ◌⊎◌, ℕ, ◌≤◌, ◌^◌, ◌↔◌, map, None};
 ghost use Rattle.std.specs.Option.{ForSome};
 ghost use Rattle.std.specs.String.{string_bytes};
 ghost use Rattle.std.specs.FinMap as files;
 ghost use Rattle.agg_outside.specs.Counts.{Rose};
 ghost use Rattle.agg_model.specs.ChangeList.{ChangeList};
-ghost use Rattle.plain_state.specs.Store.{IsStore, Holds, Keeps};
-ghost use Rattle.agg_session.specs.Served.{EndsLong};
-ghost use Rattle.agg_session.specs.Top.{usual, empty_list, empty_held, status_of, IsShort, IsSettled, EndsWhole, EndsBetween, EndsWithin, IsBetween, IsCutShort};
-ghost use Rattle.command_words.specs.CommandWords.{step_size_of};
+ghost use Rattle.agg_core.specs.Files.{SameOutside};
+ghost use Rattle.plain_state.specs.Store.{IsStore, Holds, Keeps, Goes};
+ghost use Rattle.agg_session.specs.Served.{EndsLong, IsAtEnd, TakesAtMost, TakesFewer};
+ghost use Rattle.agg_session.specs.Top.{usual_limits, AsksForRun, IsSettled, empty_list, empty_held, status_of, IsShort, EndsWhole, EndsBetween, EndsWithin, IsBetween, IsCutShort};
+ghost use Rattle.command_words.specs.CommandWords.{command_of};
 
 use crate::ends::LinkEnd;
 use crate::limits::Limits;
@@ -18,7 +19,7 @@ use crate::session::Session;
 use crate::status::Status;
 use crate::taking::serve;
 use agg_outside::{Disk, Doors, Gate, Keeper, Sink, Source};
-use command_words::step_size_of;
+use command_words::{Command, read_words};
 use line_words::LineCut;
 use plain_state::Store;
 use std::alloc::Global;
@@ -54,18 +55,20 @@ fn settle_at_end<D: Disk, K: Keeper>(
     end: LinkEnd,
     store: &mut Store<D, K>,
 ) -> LinkEnd
-    requires sound { end ≡ LinkEnd.Done → (most : ℕ) × IsStore K.held most store.old }
-    ensures settled { result ≡ LinkEnd.Done → (end ≡ LinkEnd.Done) × ((list : ChangeList) → Holds D.files K.held store.old list → IsSettled D.files K.held store.new list) }
-    ensures cut { end ≡ LinkEnd.Done → (list : ChangeList) → Holds D.files K.held store.old list → Keeps D.files K.held store.new list }
+    requires sound { end ≡ LinkEnd.Done → (most : ℕ) × IsStore K.Keeper most store.old }
+    ensures settled { result ≡ LinkEnd.Done → (end ≡ LinkEnd.Done) × ((list : ChangeList) →
+        Holds D.Disk K.Keeper store.old list → IsSettled D.Disk K.Keeper store.new list) }
+    ensures cut { end ≡ LinkEnd.Done → (list : ChangeList) → Holds D.Disk K.Keeper store.old list →
+        Keeps D.Disk K.Keeper store.new list }
     ensures other { (end ≡ LinkEnd.Done → ⊥) → (result ≡ end) × (store.new ≡ store.old) }
     ensures source { result ≡ LinkEnd.Source → end ≡ LinkEnd.Source }
     ensures sink { result ≡ LinkEnd.Sink → end ≡ LinkEnd.Sink }
     ensures long { result ≡ LinkEnd.Long → end ≡ LinkEnd.Long }
-    ensures tells { is_some (D.files store.new.disk) ≡ is_some (D.files store.old.disk) }
-    ensures disk_stays { D.faults store.old.disk ≤ D.faults store.new.disk }
-    ensures disk { result ≡ LinkEnd.Disk → (end ≡ LinkEnd.Disk) ⊎ Rose (D.faults store.old.disk) (D.faults store.new.disk) }
-    ensures keeper_stays { K.faults store.old.keeper ≤ K.faults store.new.keeper }
-    ensures keeper { result ≡ LinkEnd.Keeper → (end ≡ LinkEnd.Keeper) ⊎ Rose (K.faults store.old.keeper) (K.faults store.new.keeper) }
+    ensures goes { Goes D.Disk K.Keeper store.old store.new }
+    ensures disk { result ≡ LinkEnd.Disk → (end ≡ LinkEnd.Disk) ⊎ Rose (D.faults store.old.disk)
+        (D.faults store.new.disk) }
+    ensures keeper { result ≡ LinkEnd.Keeper → (end ≡ LinkEnd.Keeper) ⊎ Rose (K.faults store.old.keeper)
+        (K.faults store.new.keeper) }
 {
     if end != LinkEnd::Done {
         return end;
@@ -77,7 +80,8 @@ fn settle_at_end<D: Disk, K: Keeper>(
 }
 
 /// Runs one session over an empty keeper and an empty disk.
-pub fn run_plain<D: Disk, K: Keeper, I: Source, O: Sink>(
+pub fn run_plain<H: Threads + Wait + Clock + Sync, D: Disk, K: Keeper, I: Source, O: Sink>(
+    _rt: &H,
     alloc: Global,
     disk: D,
     keeper: K,
@@ -93,17 +97,26 @@ pub fn run_plain<D: Disk, K: Keeper, I: Source, O: Sink>(
     requires no_files { ForSome (D.files disk) (λ f. f ≡ files.empty) }
     requires no_rows { ForSome (K.held keeper) (λ h. h ≡ empty_held) }
     ensures done { result.status ≡ Status.Done → ForSome (K.held keeper) (λ _.
-        EndsWhole limits.now (empty_list size) (I.left source.old) (I.left source.new) (O.bytes sink.old) (O.bytes sink.new) (K.held result.keeper) (D.files result.disk)) }
-    ensures between { IsBetween result.status → ForSome (K.held keeper) (λ _.
-        EndsBetween limits.now (empty_list size) (I.left source.old) (I.left source.new) (O.bytes sink.old) (O.bytes sink.new) (K.held result.keeper) (D.files result.disk)) }
+        EndsWhole limits.now (empty_list size) (I.left source.old) (I.left source.new) (O.bytes sink.old)
+        (O.bytes sink.new) (K.held result.keeper) (D.files result.disk)) }
+    ensures between { IsBetween limits.now.bytes (I.left source.old) (I.left source.new) result.status →
+        ForSome (K.held keeper) (λ _.
+        EndsBetween limits.now (empty_list size) (I.left source.old) (I.left source.new) (O.bytes sink.old)
+        (O.bytes sink.new) (K.held result.keeper) (D.files result.disk)) }
     ensures within { IsCutShort result.status → ForSome (K.held keeper) (λ _.
-        EndsWithin limits.now (empty_list size) (I.left source.old) (I.left source.new) (O.bytes sink.old) (O.bytes sink.new) (K.held result.keeper) (D.files result.disk)) }
-    ensures tells { is_some (D.files result.disk) ≡ is_some (D.files disk) }
+        EndsWithin limits.now (empty_list size) (I.left source.old) (I.left source.new) (O.bytes sink.old)
+        (O.bytes sink.new) (K.held result.keeper) (D.files result.disk)) }
+    ensures read_whole { result.status ≡ Status.Done → IsAtEnd (I.left source.old) (I.left source.new) }
+    ensures read_fewer { result.status ≡ Status.Done →
+        TakesFewer limits.now.bytes (I.left source.old) (I.left source.new) }
+    ensures read_at_most { TakesAtMost limits.now.bytes (I.left source.old) (I.left source.new) }
+    ensures outside { SameOutside (D.files disk) (D.files result.disk) }
     ensures source { result.status ≡ Status.SourceFault → Rose (I.faults source.old) (I.faults source.new) }
     ensures sink { result.status ≡ Status.SinkFault → Rose (O.faults sink.old) (O.faults sink.new) }
     ensures disk { result.status ≡ Status.DiskFault → Rose (D.faults disk) (D.faults result.disk) }
     ensures keeper { result.status ≡ Status.KeeperFault → Rose (K.faults keeper) (K.faults result.keeper) }
-    ensures long { result.status ≡ Status.Long → ForSome (I.left source.old) (λ input. EndsLong limits.now.bytes input (I.left source.new)) }
+    ensures long { result.status ≡ Status.Long → ForSome (I.left source.old) (λ input. EndsLong limits.now.bytes input
+        (I.left source.new)) }
     ensures usage { result.status ≡ Status.Usage → ⊥ }
 {
     let mut served = Served {
@@ -118,7 +131,7 @@ pub fn run_plain<D: Disk, K: Keeper, I: Source, O: Sink>(
     let Served { session, .. } = served;
     let Session { mut store, .. } = session;
     let end = settle_at_end(alloc, end, &mut store);
-    let Store { disk, keeper, .. } = store;
+    let (disk, keeper) = store.into_parts();
     Ended {
         status: status_of(end),
         disk,
@@ -137,7 +150,7 @@ pub fn aggregate<
     K: Keeper,
     G: Gate,
 >(
-    _rt: &H,
+    rt: &H,
     alloc: Global,
     words: &[String],
     source: &mut I,
@@ -152,38 +165,57 @@ pub fn aggregate<
     requires no_rows { ForSome (K.held keeper) (λ h. h ≡ empty_held) }
 
     // The replies are those of the plain change list, its rows are kept, and its files stand.
-    ensures done { result.status ≡ Status.Done → ForSome (K.held keeper) (λ _. ForSome (step_size_of (map string_bytes words.now)) (λ size.
-        EndsWhole usual (empty_list size) (I.left source.old) (I.left source.new) (O.bytes sink.old) (O.bytes sink.new) (K.held result.keeper) (D.files result.disk))) }
-    ensures between { IsBetween result.status → ForSome (K.held keeper) (λ _. ForSome (step_size_of (map string_bytes words.now)) (λ size.
-        EndsBetween usual (empty_list size) (I.left source.old) (I.left source.new) (O.bytes sink.old) (O.bytes sink.new) (K.held result.keeper) (D.files result.disk))) }
-    ensures within { IsCutShort result.status → ForSome (K.held keeper) (λ _. ForSome (step_size_of (map string_bytes words.now)) (λ size.
-        EndsWithin usual (empty_list size) (I.left source.old) (I.left source.new) (O.bytes sink.old) (O.bytes sink.new) (K.held result.keeper) (D.files result.disk))) }
-    ensures usage { result.status ≡ Status.Usage ↔ (step_size_of (map string_bytes words.now) ≡ None) }
-    ensures usage_untouched { result.status ≡ Status.Usage → (I.left source.new ≡ I.left source.old) × (O.bytes sink.new ≡ O.bytes sink.old) × (result.disk ≡ disk) × (result.keeper ≡ keeper) }
+    ensures done { result.status ≡ Status.Done → ForSome (K.held keeper) (λ _. (size : ℕ) →
+        AsksForRun (map string_bytes words.now) size →
+        EndsWhole usual_limits (empty_list size) (I.left source.old) (I.left source.new) (O.bytes sink.old)
+        (O.bytes sink.new) (K.held result.keeper) (D.files result.disk)) }
+    ensures between { IsBetween usual_limits.bytes (I.left source.old) (I.left source.new) result.status →
+        ForSome (K.held keeper) (λ _. (size : ℕ) → AsksForRun (map string_bytes words.now) size →
+        EndsBetween usual_limits (empty_list size) (I.left source.old) (I.left source.new) (O.bytes sink.old)
+        (O.bytes sink.new) (K.held result.keeper) (D.files result.disk)) }
+    ensures within { IsCutShort result.status → ForSome (K.held keeper) (λ _. (size : ℕ) →
+        AsksForRun (map string_bytes words.now) size →
+        EndsWithin usual_limits (empty_list size) (I.left source.old) (I.left source.new) (O.bytes sink.old)
+        (O.bytes sink.new) (K.held result.keeper) (D.files result.disk)) }
+    ensures usage { result.status ≡ Status.Usage ↔ (command_of (map string_bytes words.now) ≡ None) }
+    ensures usage_untouched { result.status ≡ Status.Usage →
+        (source.new ≡ source.old) × (sink.new ≡ sink.old) × (result.disk ≡ disk) × (result.keeper ≡ keeper) }
 
-    // A disk that tells what it holds goes on telling it.
-    ensures tells { is_some (D.files result.disk) ≡ is_some (D.files disk) }
+    // Whatever the keeper tells: on `Done` no byte is left, and never are more taken than may be.
+    ensures read_whole { result.status ≡ Status.Done → IsAtEnd (I.left source.old) (I.left source.new) }
+    ensures read_fewer { result.status ≡ Status.Done →
+        TakesFewer usual_limits.bytes (I.left source.old) (I.left source.new) }
+    ensures read_at_most { TakesAtMost usual_limits.bytes (I.left source.old) (I.left source.new) }
+
+    // What isn't of the grammar stays as it was, and a disk that tells what it holds goes on telling it.
+    ensures outside { SameOutside (D.files disk) (D.files result.disk) }
 
     // A run that nothing ends early is done, or memory could not be had.
-    ensures complete { (step_size_of (map string_bytes words.now) ≡ None → ⊥) → (Rose (I.faults source.old) (I.faults source.new) → ⊥)
-        → (Rose (O.faults sink.old) (O.faults sink.new) → ⊥) → (Rose (D.faults disk) (D.faults result.disk) → ⊥) → (Rose (K.faults keeper) (K.faults result.keeper) → ⊥)
-        → IsShort usual.bytes (I.left source.old) (I.left source.new) → (result.status ≡ Status.Done) ⊎ (result.status ≡ Status.Memory) }
+    ensures complete { (command_of (map string_bytes words.now) ≡ None → ⊥) →
+        (Rose (I.faults source.old) (I.faults source.new) → ⊥)
+        → (Rose (O.faults sink.old) (O.faults sink.new) → ⊥) → (Rose (D.faults disk) (D.faults result.disk) → ⊥) →
+        (Rose (K.faults keeper) (K.faults result.keeper) → ⊥)
+        → IsShort usual_limits.bytes (I.left source.old) (I.left source.new) →
+        (result.status ≡ Status.Done) ⊎ (result.status ≡ Status.Memory) }
 
     // A device is blamed only where its count of faults rose.
     ensures source { result.status ≡ Status.SourceFault → Rose (I.faults source.old) (I.faults source.new) }
     ensures sink { result.status ≡ Status.SinkFault → Rose (O.faults sink.old) (O.faults sink.new) }
     ensures disk { result.status ≡ Status.DiskFault → Rose (D.faults disk) (D.faults result.disk) }
     ensures keeper { result.status ≡ Status.KeeperFault → Rose (K.faults keeper) (K.faults result.keeper) }
-    ensures long { result.status ≡ Status.Long → ForSome (I.left source.old) (λ input. EndsLong usual.bytes input (I.left source.new)) }
+    ensures long { result.status ≡ Status.Long → ForSome (I.left source.old) (λ input. EndsLong usual_limits.bytes input
+        (I.left source.new)) }
     ensures doors { doors.new ≡ doors.old }
 {
-    let Some(size) = step_size_of(words) else {
-        return Ended {
-            status: Status::Usage,
+    match read_words(alloc, words) {
+        Ok(Command::Run { size, .. }) => {
+            let limits = Limits::usual();
+            run_plain(rt, alloc, disk, keeper, size, &limits, source, sink)
+        }
+        Err(error) => Ended {
+            status: Status::from(error),
             disk,
             keeper,
-        };
-    };
-    let limits = Limits::usual();
-    run_plain(alloc, disk, keeper, size, &limits, source, sink)
+        },
+    }
 }

@@ -1,19 +1,20 @@
 //! A text that comes in pieces: each line is answered before the next is worked on.
-ghost use Rattle.std.specs.Prelude.{◌≡◌, ◌<◌, ◌≤◌, ◌^◌, ◌+◌, ◌++◌, [], ℕ, List, length, IfOk, OnOk, OnErr, Option, None, is_some};
+ghost use Rattle.std.specs.Prelude.{◌≡◌, ◌<◌, ◌≤◌, ◌^◌, ◌+◌, ◌++◌, [], ℕ, List, length, IfOk, IfErr, OnOk, OnErr, IfSome, IfNone, Option, None, is_some, true};
 ghost use Rattle.std.specs.Bool.{OnTrue, OnFalse};
-ghost use Rattle.line_words.specs.LineCut.{next_cut, pieces_of};
+ghost use Rattle.line_words.specs.LineCut.{next_cut, rest_cut, pieces_of};
 ghost use Rattle.agg_session.specs.State.{State};
-ghost use Rattle.agg_session.specs.Ends.{IsBlamed, faults_of};
-ghost use Rattle.agg_session.specs.Answer.{ended_lines};
-ghost use Rattle.agg_session.specs.Running.{IsSession};
+ghost use Rattle.agg_session.specs.Ends.{IsBlamed, IsWant};
+ghost use Rattle.agg_session.specs.Answer.{effect, ended_lines};
+ghost use Rattle.agg_session.specs.Running.{IsSession, Stands, HasEffect, EndsAt, KeepsDevices};
 ghost use Rattle.agg_session.specs.Served.{IsServed, IsAnswered, HasAnswered, HasStopped};
 
 use crate::ends::LinkEnd;
 use crate::limits::Limits;
-use crate::serving::{last_reply, next_reply, put_all};
 use crate::session::Session;
-use agg_outside::{Disk, Keeper, Sink};
-use line_words::LineCut;
+use crate::writing::put_all;
+use agg_outside::{Bytes, Disk, Keeper, Sink};
+use line_words::{Cutting, LineCut, Reply};
+use plain_state::Stop;
 use std::alloc::Global;
 
 /// A session at work on a text.
@@ -35,15 +36,21 @@ impl<D: Disk, K: Keeper> Served<D, K> {
     ) -> Result<bool, LinkEnd>
         requires limit { limits.now.content ≤ 2 ^ 28 }
         requires lines { self.old.lines < 2 ^ 63 }
-        requires sound { IsServed K.held limits.now self.old }
-        ensures sound { OnOk result (IsServed K.held limits.now self.new) }
+        requires sound { IsServed K.Keeper limits.now self.old }
+        ensures sound { OnOk result (IsServed K.Keeper limits.now self.new) }
         ensures lines { self.new.lines + length self.new.cut.left ≤ self.old.lines + length self.old.cut.left }
         ensures shorter { IfOk result (λ found. OnTrue found (length self.new.cut.left < length self.old.cut.left)) }
         ensures none { IfOk result (λ found. OnFalse found ((next_cut self.new.cut).0 ≡ None)) }
-        ensures answered { (start : State) (first : Option (List ℕ)) (text : List ℕ) → IsAnswered D.files K.held limits.now self.old first (O.bytes sink.old) start text → OnOk result (IsAnswered D.files K.held limits.now self.new first (O.bytes sink.new) start text) }
-        ensures stopped { (start : State) (first : Option (List ℕ)) (text : List ℕ) → IsAnswered D.files K.held limits.now self.old first (O.bytes sink.old) start text → OnErr result (HasStopped D.files K.held limits.now self.new.session.store first (O.bytes sink.new) start (ended_lines limits.now.line text)) }
-        ensures tells { is_some (D.files self.new.session.store.disk) ≡ is_some (D.files self.old.session.store.disk) }
-        ensures blamed { IsBlamed (faults_of (D.faults self.old.session.store.disk) (K.faults self.old.session.store.keeper) (O.faults sink.old)) (faults_of (D.faults self.new.session.store.disk) (K.faults self.new.session.store.keeper) (O.faults sink.new)) result }
+        ensures answered { (start : State) (first : Option (List ℕ)) (text : List ℕ) →
+            IsAnswered D.Disk K.Keeper limits.now self.old first (O.bytes sink.old) start text →
+            OnOk result (IsAnswered D.Disk K.Keeper limits.now self.new first (O.bytes sink.new) start text) }
+        ensures stopped { (start : State) (first : Option (List ℕ)) (text : List ℕ) →
+            IsAnswered D.Disk K.Keeper limits.now self.old first (O.bytes sink.old) start text →
+            OnErr result (HasStopped D.Disk K.Keeper limits.now self.new.session.store first (O.bytes sink.new) start
+            (ended_lines limits.now.line text)) }
+        ensures blamed { IsBlamed D.Disk K.Keeper O.Sink ⊥ self.old.session.store self.new.session.store sink.old
+            sink.new result }
+        ensures wants { IfErr result IsWant }
     {
         let number = self.lines + 1;
         let Some(text) = next_reply(alloc, limits, number, &mut self.cut, &mut self.session)? else {
@@ -63,14 +70,20 @@ impl<D: Disk, K: Keeper> Served<D, K> {
     ) -> Result<(), LinkEnd>
         requires limit { limits.now.content ≤ 2 ^ 28 }
         requires lines { self.old.lines + length self.old.cut.left < 2 ^ 63 }
-        requires sound { IsServed K.held limits.now self.old }
-        ensures sound { OnOk result (IsServed K.held limits.now self.new) }
+        requires sound { IsServed K.Keeper limits.now self.old }
+        ensures sound { OnOk result (IsServed K.Keeper limits.now self.new) }
         ensures lines { self.new.lines + length self.new.cut.left ≤ self.old.lines + length self.old.cut.left }
         ensures none { OnOk result ((next_cut self.new.cut).0 ≡ None) }
-        ensures answered { (start : State) (first : Option (List ℕ)) (text : List ℕ) → IsAnswered D.files K.held limits.now self.old first (O.bytes sink.old) start text → OnOk result (IsAnswered D.files K.held limits.now self.new first (O.bytes sink.new) start text) }
-        ensures stopped { (start : State) (first : Option (List ℕ)) (text : List ℕ) → IsAnswered D.files K.held limits.now self.old first (O.bytes sink.old) start text → OnErr result (HasStopped D.files K.held limits.now self.new.session.store first (O.bytes sink.new) start (ended_lines limits.now.line text)) }
-        ensures tells { is_some (D.files self.new.session.store.disk) ≡ is_some (D.files self.old.session.store.disk) }
-        ensures blamed { IsBlamed (faults_of (D.faults self.old.session.store.disk) (K.faults self.old.session.store.keeper) (O.faults sink.old)) (faults_of (D.faults self.new.session.store.disk) (K.faults self.new.session.store.keeper) (O.faults sink.new)) result }
+        ensures answered { (start : State) (first : Option (List ℕ)) (text : List ℕ) →
+            IsAnswered D.Disk K.Keeper limits.now self.old first (O.bytes sink.old) start text →
+            OnOk result (IsAnswered D.Disk K.Keeper limits.now self.new first (O.bytes sink.new) start text) }
+        ensures stopped { (start : State) (first : Option (List ℕ)) (text : List ℕ) →
+            IsAnswered D.Disk K.Keeper limits.now self.old first (O.bytes sink.old) start text →
+            OnErr result (HasStopped D.Disk K.Keeper limits.now self.new.session.store first (O.bytes sink.new) start
+            (ended_lines limits.now.line text)) }
+        ensures blamed { IsBlamed D.Disk K.Keeper O.Sink ⊥ self.old.session.store self.new.session.store sink.old
+            sink.new result }
+        ensures wants { IfErr result IsWant }
     {
         while self.answer_line(alloc, limits, sink)? {}
         Ok(())
@@ -86,14 +99,22 @@ impl<D: Disk, K: Keeper> Served<D, K> {
     ) -> Result<(), LinkEnd>
         requires limit { limits.now.content ≤ 2 ^ 28 }
         requires lines { self.old.lines + length self.old.cut.left + length piece.now < 2 ^ 63 }
-        requires sound { IsServed K.held limits.now self.old }
-        ensures sound { OnOk result (IsServed K.held limits.now self.new) }
-        ensures lines { self.new.lines + length self.new.cut.left ≤ self.old.lines + length self.old.cut.left + length piece.now }
+        requires sound { IsServed K.Keeper limits.now self.old }
+        ensures sound { OnOk result (IsServed K.Keeper limits.now self.new) }
+        ensures lines { self.new.lines + length self.new.cut.left ≤ self.old.lines + length self.old.cut.left + length
+            piece.now }
         ensures none { OnOk result ((next_cut self.new.cut).0 ≡ None) }
-        ensures answered { (start : State) (first : Option (List ℕ)) (text : List ℕ) → IsAnswered D.files K.held limits.now self.old first (O.bytes sink.old) start text → OnOk result (IsAnswered D.files K.held limits.now self.new first (O.bytes sink.new) start (text ++ piece.now)) }
-        ensures stopped { (start : State) (first : Option (List ℕ)) (text : List ℕ) → IsAnswered D.files K.held limits.now self.old first (O.bytes sink.old) start text → OnErr result (HasStopped D.files K.held limits.now self.new.session.store first (O.bytes sink.new) start (ended_lines limits.now.line (text ++ piece.now))) }
-        ensures tells { is_some (D.files self.new.session.store.disk) ≡ is_some (D.files self.old.session.store.disk) }
-        ensures blamed { IsBlamed (faults_of (D.faults self.old.session.store.disk) (K.faults self.old.session.store.keeper) (O.faults sink.old)) (faults_of (D.faults self.new.session.store.disk) (K.faults self.new.session.store.keeper) (O.faults sink.new)) result }
+        ensures answered { (start : State) (first : Option (List ℕ)) (text : List ℕ) →
+            IsAnswered D.Disk K.Keeper limits.now self.old first (O.bytes sink.old) start text →
+            OnOk result (IsAnswered D.Disk K.Keeper limits.now self.new first (O.bytes sink.new) start
+            (text ++ piece.now)) }
+        ensures stopped { (start : State) (first : Option (List ℕ)) (text : List ℕ) →
+            IsAnswered D.Disk K.Keeper limits.now self.old first (O.bytes sink.old) start text →
+            OnErr result (HasStopped D.Disk K.Keeper limits.now self.new.session.store first (O.bytes sink.new) start
+            (ended_lines limits.now.line (text ++ piece.now))) }
+        ensures blamed { IsBlamed D.Disk K.Keeper O.Sink ⊥ self.old.session.store self.new.session.store sink.old
+            sink.new result }
+        ensures wants { IfErr result IsWant }
     {
         self.cut.push(piece)?;
         self.answer_lines(alloc, limits, sink)
@@ -108,13 +129,20 @@ impl<D: Disk, K: Keeper> Served<D, K> {
     ) -> Result<(), LinkEnd>
         requires limit { limits.now.content ≤ 2 ^ 28 }
         requires lines { self.old.lines < 2 ^ 63 }
-        requires sound { IsServed K.held limits.now self.old }
+        requires sound { IsServed K.Keeper limits.now self.old }
         requires none { (next_cut self.old.cut).0 ≡ None }
-        ensures sound { OnOk result (IsSession K.held limits.now self.new.session) }
-        ensures answered { (start : State) (first : Option (List ℕ)) (text : List ℕ) → IsAnswered D.files K.held limits.now self.old first (O.bytes sink.old) start text → OnOk result (HasAnswered D.files K.held limits.now self.new.session first (O.bytes sink.new) start (pieces_of limits.now.line text)) }
-        ensures stopped { (start : State) (first : Option (List ℕ)) (text : List ℕ) → IsAnswered D.files K.held limits.now self.old first (O.bytes sink.old) start text → OnErr result (HasStopped D.files K.held limits.now self.new.session.store first (O.bytes sink.new) start (pieces_of limits.now.line text)) }
-        ensures tells { is_some (D.files self.new.session.store.disk) ≡ is_some (D.files self.old.session.store.disk) }
-        ensures blamed { IsBlamed (faults_of (D.faults self.old.session.store.disk) (K.faults self.old.session.store.keeper) (O.faults sink.old)) (faults_of (D.faults self.new.session.store.disk) (K.faults self.new.session.store.keeper) (O.faults sink.new)) result }
+        ensures sound { OnOk result (IsSession K.Keeper limits.now self.new.session) }
+        ensures answered { (start : State) (first : Option (List ℕ)) (text : List ℕ) →
+            IsAnswered D.Disk K.Keeper limits.now self.old first (O.bytes sink.old) start text →
+            OnOk result (HasAnswered D.Disk K.Keeper limits.now self.new.session first (O.bytes sink.new) start
+            (pieces_of limits.now.line text)) }
+        ensures stopped { (start : State) (first : Option (List ℕ)) (text : List ℕ) →
+            IsAnswered D.Disk K.Keeper limits.now self.old first (O.bytes sink.old) start text →
+            OnErr result (HasStopped D.Disk K.Keeper limits.now self.new.session.store first (O.bytes sink.new) start
+            (pieces_of limits.now.line text)) }
+        ensures blamed { IsBlamed D.Disk K.Keeper O.Sink ⊥ self.old.session.store self.new.session.store sink.old
+            sink.new result }
+        ensures wants { IfErr result IsWant }
     {
         let number = self.lines + 1;
         let Some(text) = last_reply(alloc, limits, number, &mut self.cut, &mut self.session)? else {
@@ -122,5 +150,72 @@ impl<D: Disk, K: Keeper> Served<D, K> {
         };
         self.lines = number;
         Ok(put_all(sink, text.as_slice())?)
+    }
+}
+
+// Cuts off the next line that has its line feed, and answers the text of its reply; none where no
+// further line end has come.
+#[tactic(auto, unfolding(crate::specs::Answer::effect))]
+fn next_reply<D: Disk, K: Keeper>(
+    alloc: Global,
+    limits: &Limits,
+    number: u64,
+    cut: &mut LineCut,
+    session: &mut Session<D, K>,
+) -> Result<Option<Bytes>, Stop>
+    requires limit { limits.now.content ≤ 2 ^ 28 }
+    requires sound { IsSession K.Keeper limits.now session.old }
+    requires opens { session.old.link.opens < 2 ^ 63 }
+    ensures sound { IsSession K.Keeper limits.now session.new }
+    ensures opens { session.new.link.opens ≤ session.old.link.opens + 1 }
+    ensures cut { cut.new ≡ record cut.old { left = (next_cut cut.old).1 } }
+    ensures found { IfOk result (λ text. is_some text ≡ is_some (next_cut cut.old).0) }
+    ensures none { IfOk result (λ text. IfNone text (session.new ≡ session.old)) }
+    ensures exact { (s : State) → Stands D.Disk K.Keeper session.old s →
+        IfOk result (λ text. IfSome text (λ t. IfSome (next_cut cut.old).0
+        (λ piece. HasEffect D.Disk K.Keeper session.new t (effect limits.now number piece s)))) }
+    ensures err_found { OnErr result (true ≡ is_some (next_cut cut.old).0) }
+    ensures err { (s : State) → Stands D.Disk K.Keeper session.old s →
+        OnErr result (IfSome (next_cut cut.old).0 (λ piece. EndsAt D.Disk K.Keeper session.new.store s.list
+        (effect limits.now number piece s).state.list)) }
+    ensures devices { KeepsDevices D.Disk K.Keeper session.old.store session.new.store result }
+{
+    match cut.next() {
+        Cutting::Line(line) => Ok(Some(session.line(alloc, limits, number, line)?)),
+        Cutting::Long => Ok(Some(Reply::ErrSyntax(number).print(alloc)?)),
+        Cutting::NotYet => Ok(None),
+    }
+}
+
+// The same of the last line, which has no line feed.
+#[tactic(auto, unfolding(crate::specs::Answer::effect))]
+fn last_reply<D: Disk, K: Keeper>(
+    alloc: Global,
+    limits: &Limits,
+    number: u64,
+    cut: &mut LineCut,
+    session: &mut Session<D, K>,
+) -> Result<Option<Bytes>, Stop>
+    requires limit { limits.now.content ≤ 2 ^ 28 }
+    requires sound { IsSession K.Keeper limits.now session.old }
+    requires opens { session.old.link.opens < 2 ^ 63 }
+    ensures sound { IsSession K.Keeper limits.now session.new }
+    ensures opens { session.new.link.opens ≤ session.old.link.opens + 1 }
+    ensures cut { cut.new ≡ record cut.old { left = [] } }
+    ensures found { IfOk result (λ text. is_some text ≡ is_some (rest_cut cut.old)) }
+    ensures none { IfOk result (λ text. IfNone text (session.new ≡ session.old)) }
+    ensures exact { (s : State) → Stands D.Disk K.Keeper session.old s →
+        IfOk result (λ text. IfSome text (λ t. IfSome (rest_cut cut.old)
+        (λ piece. HasEffect D.Disk K.Keeper session.new t (effect limits.now number piece s)))) }
+    ensures err_found { OnErr result (true ≡ is_some (rest_cut cut.old)) }
+    ensures err { (s : State) → Stands D.Disk K.Keeper session.old s →
+        OnErr result (IfSome (rest_cut cut.old) (λ piece. EndsAt D.Disk K.Keeper session.new.store s.list
+        (effect limits.now number piece s).state.list)) }
+    ensures devices { KeepsDevices D.Disk K.Keeper session.old.store session.new.store result }
+{
+    match cut.rest() {
+        Cutting::Line(line) => Ok(Some(session.line(alloc, limits, number, line)?)),
+        Cutting::Long => Ok(Some(Reply::ErrSyntax(number).print(alloc)?)),
+        Cutting::NotYet => Ok(None),
     }
 }

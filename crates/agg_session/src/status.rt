@@ -1,3 +1,8 @@
+ghost use Rattle.std.specs.Prelude.{◌≡◌, None, Some, MatchOption};
+ghost use Rattle.agg_session.specs.Statuses.{exit_number, error_words, status_of_words};
+
+use command_words::WordsError;
+
 /// How the program ends.
 #[derive(Clone, Copy, Debug, PartialEq, Eq)]
 pub enum Status {
@@ -21,7 +26,9 @@ pub enum Status {
 
 impl Status {
     /// The exit status of the program.
-    pub fn number(self) -> u8 {
+    pub fn number(self) -> u8
+        ensures { result ≡ exit_number self }
+    {
         match self {
             Status::Done => 0,
             Status::Usage => 1,
@@ -35,7 +42,9 @@ impl Status {
     }
 
     /// The line on standard error; none where all went well.
-    pub fn text(self) -> Option<&'static str> {
+    pub fn text(self) -> Option<&'static str>
+        ensures { MatchOption result (error_words self ≡ None) (λ text. error_words self ≡ Some text.now) }
+    {
         match self {
             Status::Done => None,
             Status::Usage => Some("aggregator: usage"),
@@ -45,6 +54,17 @@ impl Status {
             Status::KeeperFault => Some("aggregator: keeper fault"),
             Status::Memory => Some("aggregator: out of memory"),
             Status::Long => Some("aggregator: input too long"),
+        }
+    }
+}
+
+impl From<WordsError> for Status {
+    ghost from_gives = { λ error status. status ≡ status_of_words error };
+
+    fn from(error: WordsError) -> Status {
+        match error {
+            WordsError::Usage => Status::Usage,
+            WordsError::Memory => Status::Memory,
         }
     }
 }

@@ -1,8 +1,9 @@
 //! A session over a source and a sink: takes bytes, and answers each line before it takes more.
-ghost use Rattle.std.specs.Prelude.{◌≡◌, ◌⊎◌, ◌<◌, ◌≤◌, ◌^◌, ◌+◌, length, None, IfOk, OnOk, OnErr, IfErr, IsErrOf, MatchResult, is_some};
+ghost use Rattle.std.specs.Prelude.{◌≡◌, ◌⊎◌, ◌<◌, ◌≤◌, ◌^◌, ◌+◌, length, None, IfOk, OnOk, OnErr, IfErr, IsErrOf, MatchResult};
 ghost use Rattle.std.specs.Option.{ForSome};
 ghost use Rattle.agg_outside.specs.Counts.{Rose};
 ghost use Rattle.line_words.specs.LineCut.{next_cut};
+ghost use Rattle.agg_session.specs.Ends.{IsBlamed, IsWant, ended_by};
 ghost use Rattle.agg_session.specs.Running.{IsSession};
 ghost use Rattle.agg_session.specs.Served.{IsServed, IsTaken, IsAtEnd, Takes, TakesPart, ServesAll, ServesEnded, ServesPart, EndsLong};
 
@@ -46,26 +47,24 @@ fn take_some<D: Disk, K: Keeper, I: Source, O: Sink>(
     requires room { 0 < room }
     requires within { room ≤ 4096 }
     requires lines { served.old.lines + length served.old.cut.left < 2 ^ 62 }
-    requires sound { IsServed K.held limits.now served.old }
+    requires sound { IsServed K.Keeper limits.now served.old }
     requires none { (next_cut served.old.cut).0 ≡ None }
     ensures fits { IfOk result (λ count. count ≤ room) }
-    ensures sound { OnOk result (IsServed K.held limits.now served.new) }
+    ensures sound { OnOk result (IsServed K.Keeper limits.now served.new) }
     ensures none { OnOk result ((next_cut served.new.cut).0 ≡ None) }
-    ensures lines { IfOk result (λ count. served.new.lines + length served.new.cut.left ≤ served.old.lines + length served.old.cut.left + count) }
-    ensures answered { IfOk result (λ count. Takes D.files K.held limits.now served.old served.new (O.bytes sink.old) (O.bytes sink.new) (I.left source.old) (I.left source.new) count) }
-    ensures stopped { OnErr result (TakesPart D.files K.held limits.now room served.old served.new (O.bytes sink.old) (O.bytes sink.new) (I.left source.old) (I.left source.new)) }
-    ensures nothing { IsErrOf result LinkEnd.Source → (served.new ≡ served.old) × (O.bytes sink.new ≡ O.bytes sink.old) × (I.left source.new ≡ I.left source.old) }
+    ensures lines { IfOk result
+        (λ count. served.new.lines + length served.new.cut.left ≤ served.old.lines + length served.old.cut.left +
+        count) }
+    ensures answered { IfOk result (λ count. Takes D.Disk K.Keeper limits.now served.old served.new (O.bytes sink.old)
+        (O.bytes sink.new) (I.left source.old) (I.left source.new) count) }
+    ensures stopped { OnErr result (TakesPart D.Disk K.Keeper limits.now room served.old served.new (O.bytes sink.old)
+        (O.bytes sink.new) (I.left source.old) (I.left source.new)) }
+    ensures nothing { IsErrOf result LinkEnd.Source →
+        (served.new ≡ served.old) × (O.bytes sink.new ≡ O.bytes sink.old) × (I.left source.new ≡ I.left source.old) }
     ensures source_stays { I.faults source.old ≤ I.faults source.new }
-    ensures source { IsErrOf result LinkEnd.Source → Rose (I.faults source.old) (I.faults source.new) }
-    ensures keeper_stays { K.faults served.old.session.store.keeper ≤ K.faults served.new.session.store.keeper }
-    ensures tells { is_some (D.files served.new.session.store.disk) ≡ is_some (D.files served.old.session.store.disk) }
-    ensures disk_stays { D.faults served.old.session.store.disk ≤ D.faults served.new.session.store.disk }
-    ensures keeper { IsErrOf result LinkEnd.Keeper → Rose (K.faults served.old.session.store.keeper) (K.faults served.new.session.store.keeper) }
-    ensures disk { IsErrOf result LinkEnd.Disk → Rose (D.faults served.old.session.store.disk) (D.faults served.new.session.store.disk) }
-    ensures sink_stays { O.faults sink.old ≤ O.faults sink.new }
-    ensures sink { IsErrOf result LinkEnd.Sink → Rose (O.faults sink.old) (O.faults sink.new) }
-    ensures done { IsErrOf result LinkEnd.Done → ⊥ }
-    ensures long { IsErrOf result LinkEnd.Long → ⊥ }
+    ensures blamed { IsBlamed D.Disk K.Keeper O.Sink (Rose (I.faults source.old) (I.faults source.new))
+        served.old.session.store served.new.session.store sink.old sink.new result }
+    ensures wants { IfErr result IsWant }
 {
     let mut buffer = [0u8; ROOM];
     let piece = take_piece(source, &mut buffer[..room])?;
@@ -84,22 +83,21 @@ pub fn serve<D: Disk, K: Keeper, I: Source, O: Sink>(
     requires limit { limits.now.content ≤ 2 ^ 28 }
     requires bytes { limits.now.bytes ≤ 2 ^ 40 }
     requires fresh { served.old.lines + length served.old.cut.left ≡ 0 }
-    requires sound { IsServed K.held limits.now served.old }
+    requires sound { IsServed K.Keeper limits.now served.old }
     requires none { (next_cut served.old.cut).0 ≡ None }
-    ensures sound { result ≡ LinkEnd.Done → IsSession K.held limits.now served.new.session }
-    ensures all { result ≡ LinkEnd.Done → ServesAll D.files K.held limits.now served.old served.new (O.bytes sink.old) (O.bytes sink.new) (I.left source.old) (I.left source.new) }
-    ensures ended { (result ≡ LinkEnd.Source) ⊎ (result ≡ LinkEnd.Long) → ServesEnded D.files K.held limits.now served.old served.new (O.bytes sink.old) (O.bytes sink.new) (I.left source.old) (I.left source.new) }
-    ensures part { (result ≡ LinkEnd.Done → ⊥) → ServesPart D.files K.held limits.now served.old served.new (O.bytes sink.old) (O.bytes sink.new) (I.left source.old) (I.left source.new) }
-    ensures long { result ≡ LinkEnd.Long → ForSome (I.left source.old) (λ input. EndsLong limits.now.bytes input (I.left source.new)) }
+    ensures sound { result ≡ LinkEnd.Done → IsSession K.Keeper limits.now served.new.session }
+    ensures all { result ≡ LinkEnd.Done → ServesAll D.Disk K.Keeper limits.now served.old served.new (O.bytes sink.old)
+        (O.bytes sink.new) (I.left source.old) (I.left source.new) }
+    ensures ended { (result ≡ LinkEnd.Source) ⊎ (result ≡ LinkEnd.Long) →
+        ServesEnded D.Disk K.Keeper limits.now served.old served.new (O.bytes sink.old) (O.bytes sink.new)
+        (I.left source.old) (I.left source.new) }
+    ensures part { (result ≡ LinkEnd.Done → ⊥) → ServesPart D.Disk K.Keeper limits.now served.old served.new
+        (O.bytes sink.old) (O.bytes sink.new) (I.left source.old) (I.left source.new) }
+    ensures long { result ≡ LinkEnd.Long → ForSome (I.left source.old) (λ input. EndsLong limits.now.bytes input
+        (I.left source.new)) }
     ensures source_stays { I.faults source.old ≤ I.faults source.new }
-    ensures source { result ≡ LinkEnd.Source → Rose (I.faults source.old) (I.faults source.new) }
-    ensures keeper_stays { K.faults served.old.session.store.keeper ≤ K.faults served.new.session.store.keeper }
-    ensures tells { is_some (D.files served.new.session.store.disk) ≡ is_some (D.files served.old.session.store.disk) }
-    ensures disk_stays { D.faults served.old.session.store.disk ≤ D.faults served.new.session.store.disk }
-    ensures keeper { result ≡ LinkEnd.Keeper → Rose (K.faults served.old.session.store.keeper) (K.faults served.new.session.store.keeper) }
-    ensures disk { result ≡ LinkEnd.Disk → Rose (D.faults served.old.session.store.disk) (D.faults served.new.session.store.disk) }
-    ensures sink_stays { O.faults sink.old ≤ O.faults sink.new }
-    ensures sink { result ≡ LinkEnd.Sink → Rose (O.faults sink.old) (O.faults sink.new) }
+    ensures blamed { IsBlamed D.Disk K.Keeper O.Sink (Rose (I.faults source.old) (I.faults source.new))
+        served.old.session.store served.new.session.store sink.old sink.new (ended_by result) }
 {
     let mut taken = 0u64;
     while taken < limits.bytes {

@@ -18,7 +18,8 @@ pub(crate) const FIRST_PATH: &[u8] =
 pub(crate) const FIRST_REPLIES: &[u8] = b"ok\nok\ncommitted 1 1\nopened 1 1\nvalue 01\nnone\nok\n";
 
 // A run at the usual step size and limits, over an empty disk and keeper.
-fn status_of_run<I: Source, O: Sink>(
+fn status_of_run<H: Threads + Wait + Clock + Sync, I: Source, O: Sink>(
+    rt: &H,
     alloc: Global,
     source: &mut I,
     sink: &mut O,
@@ -30,7 +31,7 @@ fn status_of_run<I: Source, O: Sink>(
     };
     let keeper = SureKeeper::new(alloc, &rows)?;
     let limits = Limits::usual();
-    Ok(run_plain(alloc, disk, keeper, 1_562_500, &limits, source, sink).status)
+    Ok(run_plain(rt, alloc, disk, keeper, 1_562_500, &limits, source, sink).status)
 }
 
 // A keeper without a row, of which these calls fail.
@@ -74,8 +75,8 @@ pub(crate) fn status_of_words<H: Threads + Wait + Clock + Sync, I: Source, O: Si
 }
 
 // The text gets these replies, where at most `most` bytes come at a time.
-fn expect_replies(
-    rt: &impl Abort,
+fn expect_replies<H: Abort + Threads + Wait + Clock + Sync>(
+    rt: &H,
     alloc: Global,
     most: usize,
     text: &[u8],
@@ -86,7 +87,10 @@ fn expect_replies(
     let mut source = SureSource::new(alloc, text)?;
     source.piece(most);
     let mut sink = SureSink::new(alloc, &[])?;
-    assert_eq!(rt; status_of_run(alloc, &mut source, &mut sink)?, Status::Done);
+    assert_eq!(rt;
+        status_of_run(rt, alloc, &mut source, &mut sink)?,
+        Status::Done
+    );
     assert_eq!(rt; sink.bytes(), replies);
     Ok(())
 }

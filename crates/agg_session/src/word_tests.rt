@@ -1,7 +1,7 @@
 use crate::tests::{status_of_words, words_of};
 use crate::*;
 use agg_outside::Memory;
-use command_words::step_size_of;
+use command_words::{Command, WordsError, read_words};
 use memory_side::{SureSink, SureSource};
 use std::alloc::Global;
 use std::process::Abort;
@@ -9,7 +9,11 @@ use std::test::Fail;
 
 fn size_of(alloc: Global, texts: &[&str]) -> Result<Option<u64>, Memory> {
     let words = words_of(alloc, texts)?;
-    Ok(step_size_of(words.as_slice()))
+    match read_words(alloc, words.as_slice()) {
+        Ok(Command::Run { size, .. }) => Ok(Some(size)),
+        Err(WordsError::Usage) => Ok(None),
+        Err(WordsError::Memory) => Err(Memory),
+    }
 }
 
 #[test]
@@ -46,10 +50,7 @@ fn all_other_words_are_no_command(rt: HostRuntime) -> Result<(), Fail> {
     }
     assert_eq!(rt; size_of(alloc, &["run", "--workers", "17"])?, None);
     assert_eq!(rt; size_of(alloc, &["--step", "1", "run"])?, None);
-    assert_eq!(rt;
-        size_of(alloc, &["run", "--step", "1", "--step", "2"])?,
-        None
-    );
+    assert_eq!(rt; size_of(alloc, &["run", "--step", "1", "--step=1"])?, None);
     Ok(())
 }
 

@@ -1,15 +1,14 @@
 //! Hash accessors: so many keys of 20 bytes in a word file, their accessor, and a look for each.
-ghost use Rattle.std.specs.Prelude.{◌≡◌, ◌<◌, ◌≤◌, ◌^◌, IsTrue};
-ghost use Rattle.recsplit_index.specs.Keys.{IsPaired, KeysDiffer};
+ghost use Rattle.std.specs.Prelude.{◌≡◌, ◌<◌, ◌≤◌, ◌^◌};
 ghost use Rattle.recsplit_index.specs.Index.{index_of};
 
-use crate::keys::{TAG, is_paired, keys_ascend};
+use crate::keys::TAG;
 use agg_outside::{Memory, Steps};
 use recsplit_index::HashIndex;
 use std::alloc::Global;
 use std::marker::Brand;
 use std::sync::ledger::{Blank, Ledger};
-use word_file::{WordFile, WordWriter};
+use word_file::{WordFile, WordWriter, is_paired, keys_ascend};
 
 const TRIES: u32 = 65_536;
 
@@ -22,13 +21,6 @@ fn written(alloc: Global, count: u64) -> Result<WordFile, Memory> {
         writer.push(&[])?;
     }
     Ok(writer.finish())
-}
-
-fn keys_differ<L: Ledger>(words: &WordFile, steps: &mut Steps<L>) -> bool
-    requires { IsPaired words.now.words }
-    ensures { IsTrue result → KeysDiffer words.now.words }
-{
-    keys_ascend(words, steps)
 }
 
 fn find<L: Ledger>(
@@ -84,7 +76,7 @@ fn sum_of_keys<L: Ledger>(
 {
     let mut steps = Steps::<L>::of(blank);
     let words = written(alloc, count)?;
-    if !is_paired(&words) || !keys_differ(&words, &mut steps) {
+    if !is_paired(&words) || !keys_ascend(&words, &mut steps) {
         return Ok(0);
     }
     if let Stage::Pairs = stage {

@@ -1,32 +1,41 @@
 //! Lists of rising numbers: made into texts, and looked into at random places.
+ghost use Rattle.std.specs.Prelude.{IfOk, IfSome};
+ghost use Rattle.elias_fano.specs.Spelling.{IsSpelled};
+
 use agg_outside::{Bytes, Memory};
 use elias_fano::{EfList, encode};
 use std::alloc::Global;
 
 const ROUNDS: u64 = 8;
 
-// The number drawn after this one.
-fn drawn(before: u64) -> u64 {
+/// The number drawn after this one.
+pub fn drawn(before: u64) -> u64 {
     let first = before ^ (before << 13);
     let second = first ^ (first >> 7);
     second ^ (second << 17)
 }
 
-// So many numbers, each at most 1,023 above the one before.
-fn rising(alloc: Global, count: u64) -> Result<Vec<u64>, Memory> {
+// So many numbers, each at most 1,023 above the one before; `draw` goes on.
+pub fn rising_by(alloc: Global, count: u64, draw: &mut u64) -> Result<Vec<u64>, Memory> {
     let mut items = Vec::new(alloc);
-    let mut draw = 88_172_645_463_325_252u64;
     let mut item = 0u64;
     for _ in 0..count {
-        draw = drawn(draw);
-        item = item.saturating_add(draw % 1024);
+        *draw = drawn(*draw);
+        item = item.saturating_add(*draw % 1024);
         items.push(item)?;
     }
     Ok(items)
 }
 
-// The text of the numbers; none of no numbers, and of too many.
-fn text_of(alloc: Global, items: &[u64]) -> Result<Option<Bytes>, Memory> {
+fn rising(alloc: Global, count: u64) -> Result<Vec<u64>, Memory> {
+    let mut draw = 88_172_645_463_325_252u64;
+    rising_by(alloc, count, &mut draw)
+}
+
+/// The text of the numbers; none of no numbers, and of too many.
+pub fn text_of(alloc: Global, items: &[u64]) -> Result<Option<Bytes>, Memory>
+    ensures { IfOk result (λ o. IfSome o (λ text. IsSpelled text)) }
+{
     if items.is_empty() || items.len() >= 1 << 32 || !items.is_sorted() {
         return Ok(None);
     }
@@ -80,6 +89,8 @@ pub fn sum_of_lists(alloc: Global, part: &str, count: u64) -> Result<u64, Memory
         }
     }
     if let Ok(list) = EfList::check(bytes) {
+        let marks = list.marks();
+        let list = list.with(&marks);
         if part == "lists_get" {
             sum = sum.wrapping_add(sum_of_items(&list));
         }

@@ -5,12 +5,14 @@
 mod hashed;
 mod keys;
 mod lists;
+mod opened;
 mod ordered;
 mod words;
 
 use agg_outside::Memory;
 use hashed::sum_of_hashed;
 use lists::sum_of_lists;
+use opened::{Lists, sum_of_opened};
 use ordered::sum_of_ordered;
 use std::env;
 use std::marker::Brand;
@@ -38,6 +40,17 @@ fn sum_of_part<R: AllocGlobal + Env>(rt: &R) -> Result<Option<u64>, Memory> {
         }
         "lists" | "lists_encode" | "lists_get" | "lists_seek" => {
             Ok(Some(sum_of_lists(rt.alloc(), part.as_str(), count)?))
+        }
+        "opened" => {
+            let (Some(least), Some(most), Some(rounds)) = (
+                args.next().and_then(|word| word.parse::<u64>().ok()),
+                args.next().and_then(|word| word.parse::<u64>().ok()),
+                args.next().and_then(|word| word.parse::<u64>().ok()),
+            ) else {
+                return Ok(None);
+            };
+            let lists = Lists { count, least, most };
+            Ok(Some(sum_of_opened(rt.alloc(), lists, rounds)?))
         }
         "ordered" => {
             let Some(looks) = args.next().and_then(|word| word.parse::<u64>().ok()) else {

@@ -1,14 +1,14 @@
 //! Ordered accessors: so many keys of 20 bytes, and so many look-ups at random, half of them at keys
 //! that are there and half between two.
 ghost use Rattle.std.specs.Prelude.{◌≡◌, ◌<◌};
-ghost use Rattle.btree_index.specs.Keys.{IsPaired, key_offsets};
+ghost use Rattle.word_file.specs.Paired.{IsPaired, key_offsets};
 
-use crate::keys::{TAG, is_paired, keys_ascend};
+use crate::keys::TAG;
 use agg_outside::{Memory, Steps};
 use btree_index::BTreeFile;
 use std::alloc::Global;
 use std::sync::ledger::{Blank, Ledger};
-use word_file::{WordFile, WordWriter};
+use word_file::{WordFile, WordWriter, is_paired, keys_ascend};
 
 /// Keys for so many places, spread over all that 20 bytes can be: those with odd numbers are in the
 /// file, and those with even numbers lie below, between and above them.

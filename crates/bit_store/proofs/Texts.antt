@@ -4,7 +4,7 @@ use Rattle.std.proofs.Math.Nat.{mod-eq_of_lt, mod-lt}
 use Rattle.std.proofs.lemmas.Nat.{pow_pos, pow-add, rows, from_le_bytes-to_le_bytes_8}
 use Rattle.std.proofs.lemmas.Bool.{cases_lt}
 use Rattle.std.proofs.lemmas.List.{length-append, length-take, length-drop, take-append-drop, take_at, drop_at, take_all, drop_all, length-replicate, get_or_past, nil_from_length, get_or-drop, get_or-take, drop_more}
-use Rattle.std.specs.Int.{w64, w128, from_le_bytes, to_le_bytes}
+use Rattle.std.specs.Int.{w64, from_le_bytes, to_le_bytes}
 use Rattle.bit_store.specs.Bits.{number_of, low_bits, bits_of, bytes_from, bytes_for, text_of, IsHeld}
 use Rattle.bit_store.specs.Counts.{number_in}
 use Rattle.bit_store.proofs.Numbers.{number_of-lt, number_of-append, number_of-low_bits, length-low_bits, number_of-take, number_of-drop, same_bits, number_of-replicate}
@@ -129,10 +129,6 @@ pub le_word8 : (bytes : List ℕ) → IsBytes bytes → length bytes ≡ 8 → f
 le_word8 bytes fits len =
     omega (arith, number_in-step bytes 0 fits, number_in-step bytes 1 fits, number_in-step bytes 2 fits, number_in-step bytes 3 fits, number_in-step bytes 4 fits, number_in-step bytes 5 fits, number_in-step bytes 6 fits, number_in-step bytes 7 fits, number_in-past bytes 8 (omega arith))
 
-pub le_word16 : (bytes : List ℕ) → IsBytes bytes → length bytes ≡ 16 → from_le_bytes w128 bytes ≡ number_in bytes
-le_word16 bytes fits len =
-    omega (arith, number_in-step bytes 0 fits, number_in-step bytes 1 fits, number_in-step bytes 2 fits, number_in-step bytes 3 fits, number_in-step bytes 4 fits, number_in-step bytes 5 fits, number_in-step bytes 6 fits, number_in-step bytes 7 fits, number_in-step bytes 8 fits, number_in-step bytes 9 fits, number_in-step bytes 10 fits, number_in-step bytes 11 fits, number_in-step bytes 12 fits, number_in-step bytes 13 fits, number_in-step bytes 14 fits, number_in-step bytes 15 fits, number_in-past bytes 16 (omega arith))
-
 fits_nil : IsBytes []
 fits_nil i = omega arith
 
@@ -201,11 +197,11 @@ IsBytes-take n bytes h i =
       | inr le ↦ rw (get_or_past (take n bytes) i 0 (omega (arith, length-take n bytes))) (omega arith)
     ]
 
--- the first sixteen bytes of a text
-pub le_front16 : (bytes : List ℕ) → IsBytes bytes → 16 ≤ length bytes → from_le_bytes w128 bytes ≡ number_in (take 16 bytes)
-le_front16 bytes fits long =
-    let front : from_le_bytes w128 bytes ≡ from_le_bytes w128 (take 16 bytes) = omega (arith, get_or-take 16 bytes 0 0 (omega arith), get_or-take 16 bytes 1 0 (omega arith), get_or-take 16 bytes 2 0 (omega arith), get_or-take 16 bytes 3 0 (omega arith), get_or-take 16 bytes 4 0 (omega arith), get_or-take 16 bytes 5 0 (omega arith), get_or-take 16 bytes 6 0 (omega arith), get_or-take 16 bytes 7 0 (omega arith), get_or-take 16 bytes 8 0 (omega arith), get_or-take 16 bytes 9 0 (omega arith), get_or-take 16 bytes 10 0 (omega arith), get_or-take 16 bytes 11 0 (omega arith), get_or-take 16 bytes 12 0 (omega arith), get_or-take 16 bytes 13 0 (omega arith), get_or-take 16 bytes 14 0 (omega arith), get_or-take 16 bytes 15 0 (omega arith)) in
-    front ∙ le_word16 (take 16 bytes) (IsBytes-take 16 bytes fits) (omega (arith, length-take 16 bytes))
+-- the first eight bytes from a place on
+pub le_front8 : (bytes : List ℕ) (at word : ℕ) → IsBytes bytes → at + 8 ≤ length bytes → word ≡ from_le_bytes w64 (take 8 (drop at bytes)) → word ≡ number_in (take 8 (drop at bytes))
+le_front8 bytes at word fits long e =
+    let part = take 8 (drop at bytes) in
+    e ∙ le_word8 part (IsBytes-take 8 (drop at bytes) (IsBytes-drop at bytes fits)) (omega (arith, length-take 8 (drop at bytes), length-drop at bytes))
 
 -- the bits that the bytes hold are as many as is said
 pub held_back : (len : ℕ) (bytes : List ℕ) → IsHeld len bytes → take (length (take len (bits_of bytes))) (bits_of bytes) ≡ take len (bits_of bytes)
@@ -218,3 +214,7 @@ pub bits_of-text_of : (bits : List Bool) → take (length bits) (bits_of (text_o
 bits_of-text_of bits =
     let n : ℕ = bytes_for (length bits) in
     ap (take (length bits)) (bits_of-bytes_from n bits (omega arith)) ∙ take_at bits (replicate (8 * n - length bits) false) (length bits) refl
+
+-- bytes hold all their bits
+pub all_held : (n : ℕ) (bytes : List ℕ) → n ≡ length bytes → IsHeld (8 * n) bytes
+all_held n bytes e = record { count = omega (arith, e); rest = rw e (number_in-lt bytes) }

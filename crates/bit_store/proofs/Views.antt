@@ -1,10 +1,10 @@
 -- Parts of a list of bits, and their ones.
-use Rattle.std.proofs.Common.{◌≡◌, ℕ, zero, suc, ◌+◌, ◌-◌, ◌*◌, ◌/◌, ◌%◌, ◌^◌, ◌<◌, ◌≤◌, Bool, true, false, eqb, List, [], ◌∷◌, length, take, drop, get_or, refl, sym, ap, ◌∙◌, subst, arith, inl, inr}
-use Rattle.std.proofs.Math.Nat.{pow-succ', div-div-eq-div-mul, mod-lt, mod-eq_of_lt, zero-div, div-one, add_comm, pow-le-pow_right, div-eq_of_lt, div-eq_of_lt-le}
-use Rattle.std.proofs.lemmas.Nat.{pow_pos, pow-add, mod-pow-add, shr_split, shr-shr, field_of, ones_cat, ones_le_self}
+use Rattle.std.proofs.Common.{◌≡◌, ℕ, zero, suc, ◌+◌, ◌-◌, ◌*◌, ◌/◌, ◌%◌, ◌^◌, ◌<◌, ◌≤◌, Bool, true, false, eqb, List, [], ◌∷◌, length, take, drop, ◌++◌, get_or, refl, sym, ap, ◌∙◌, subst, arith, inl, inr}
+use Rattle.std.proofs.Math.Nat.{pow-succ', div-div-eq-div-mul, mod-lt, mod-eq_of_lt, zero-div, div-one, add_comm, pow-le-pow_right, div-eq_of_lt, div-eq_of_lt-le, mul_assoc, mul_comm, add-mul-div_left}
+use Rattle.std.proofs.lemmas.Nat.{pow_pos, pow-add, mod-pow-add, shr_split, shr_below, shr-shr, field_of, ones_cat, ones_le_self, div-mul-add, mod-mul-add, mul-add-lt}
 use Rattle.std.proofs.lemmas.Nat.Bits.{bit_at-trailing_zeros, same_from_bits, bit_at_cat_low, bit_at_above, bit_at-zero}
 use Rattle.std.proofs.lemmas.Bool.{cases_lt}
-use Rattle.std.proofs.lemmas.List.{length-take, length-drop, take-append-drop, take-take, drop-take, drop-drop, take_all, drop_more}
+use Rattle.std.proofs.lemmas.List.{length-take, length-drop, take-append-drop, take-take, drop-take, drop-drop, take_all, take_more, drop_more, get_or-drop}
 use Rattle.std.specs.Int.{w64, bit_at, trailing_zeros, from_le_bytes}
 use Rattle.std.specs.Int.RustNames.{count_ones}
 use Rattle.std.specs.Int.Count.{ones_step}
@@ -12,7 +12,7 @@ use Rattle.bit_store.specs.Bits.{digit, number_of, ones_of, bits_of, IsOneAt}
 use Rattle.bit_store.specs.Counts.{number_in, IsPlaceIn}
 use Rattle.bit_store.proofs.Numbers.{digit-lt, number_of-take, number_of-drop, number_of-lt, ones-number_of, ones_of-append}
 use Rattle.bit_store.proofs.Writing.{low_of_low}
-use Rattle.bit_store.proofs.Texts.{IsBytes, bits_of-take, bits_of-drop, number_in-cons, number_in-nil, number_in-lt, number_in-step, le_word8, IsBytes-take, IsBytes-drop}
+use Rattle.bit_store.proofs.Texts.{IsBytes, bits_of-take, bits_of-drop, number_in-cons, number_in-nil, number_in-append, number_in-lt, number_in-step, le_word8, IsBytes-take, IsBytes-drop}
 
 -- a part of the first bits is that part of all
 pub part_of_front : (w s k : ℕ) (xs : List Bool) → s + w ≤ k → take w (drop s (take k xs)) ≡ take w (drop s xs)
@@ -196,12 +196,12 @@ narrow_last word k left at n =
     let le : count_ones bit ≤ bit = ones_le_self bit in
     record { within = omega (arith, n.fits); one = omega arith; before = omega (arith, n.before) }
 
--- ---- fewer than sixteen bytes
+-- ---- at most eight bytes
 
-pub few_below : (bytes : List ℕ) (number k : ℕ) → IsBytes bytes → length bytes < 16 → k < length bytes → number ≡ number_in (drop (length bytes - k) bytes) → number < 2 ^ 112
+pub few_below : (bytes : List ℕ) (number k : ℕ) → IsBytes bytes → length bytes ≤ 8 → k < length bytes → number ≡ number_in (drop (length bytes - k) bytes) → number < 2 ^ 56
 few_below bytes number k fits short lt e =
-    let fewer : 8 * length (drop (length bytes - k) bytes) ≤ 112 = omega (arith, length-drop (length bytes - k) bytes) in
-    let wide : 2 ^ (8 * length (drop (length bytes - k) bytes)) ≤ 2 ^ 112 = pow-le-pow_right (omega arith) fewer in
+    let fewer : 8 * length (drop (length bytes - k) bytes) ≤ 56 = omega (arith, length-drop (length bytes - k) bytes) in
+    let wide : 2 ^ (8 * length (drop (length bytes - k) bytes)) ≤ 2 ^ 56 = pow-le-pow_right (omega arith) fewer in
     omega (arith, number_in-lt (drop (length bytes - k) bytes), wide)
 
 pub few_more : (bytes : List ℕ) (number k : ℕ) → IsBytes bytes → k < length bytes → number ≡ number_in (drop (length bytes - k) bytes)
@@ -214,9 +214,55 @@ few_more bytes number k fits lt e =
     let num : number ≡ number_in (drop (at + 1) bytes) = e ∙ ap (λ n. number_in (drop n bytes)) next in
     rw (here, step) (omega (arith, num))
 
--- all that is left of a text
-pub few_all : (start : ℕ) (bytes : List ℕ) → length (drop start bytes) < 16 → take 16 (drop start bytes) ≡ drop start bytes
-few_all start bytes lt = take_all 16 (drop start bytes) (omega arith)
+-- eight bytes without the first bits
+pub low_below : (bytes : List ℕ) (s : ℕ) → s < 8 → number_in (take 8 bytes) / 2 ^ s < 2 ^ (64 - s)
+low_below bytes s few =
+    let size : 8 * length (take 8 bytes) ≤ 64 = omega (arith, length-take 8 bytes) in
+    let most : 2 ^ (8 * length (take 8 bytes)) ≤ 2 ^ 64 = pow-le-pow_right (omega arith) size in
+    let all : 2 ^ (64 - s + s) ≡ 2 ^ 64 = (let e : 64 - s + s ≡ 64 = omega arith in ap (λ n. 2 ^ n) e) in
+    shr_below (number_in (take 8 bytes)) (64 - s) s (omega (arith, number_in-lt (take 8 bytes), most, all))
+
+-- a field that ends in the ninth byte
+pub field_over : (bytes : List ℕ) (i w len : ℕ) → get_or bytes (i / 8 + 8) 0 < 256 → 64 < i % 8 + w → w ≤ 64 → i + w ≤ len → len ≤ 8 * length bytes
+    → number_in (take 8 (drop (i / 8) bytes)) / 2 ^ (i % 8) + get_or bytes (i / 8 + 8) 0 % 2 ^ (i % 8 + w - 64) * 2 ^ (64 - i % 8) ≡ number_of (take w (drop i (take len (bits_of bytes))))
+field_over bytes i w len byte over wide within long =
+    let s : ℕ = i % 8 in
+    let k : ℕ = 64 - s in
+    let j : ℕ = s + w - 64 in
+    let rest = drop (i / 8) bytes in
+    let b : ℕ = get_or bytes (i / 8 + 8) 0 in
+    let eight : ℕ = number_in (take 8 rest) in
+    let low : ℕ = eight / 2 ^ s in
+    let size : length (take 8 rest) ≡ 8 = omega (arith, length-take 8 rest, length-drop (i / 8) bytes) in
+    let here : get_or rest 8 0 ≡ b = get_or-drop (i / 8) bytes 8 0 in
+    let next : take 9 rest ≡ take 8 rest ++ b ∷ [] = take_more rest 8 0 (omega (arith, length-drop (i / 8) bytes)) ∙ ap (λ x. take 8 rest ++ x ∷ []) here in
+    let one : number_in (b ∷ []) ≡ b = number_in-cons b [] byte ∙ (rw number_in-nil (omega arith)) in
+    let nine : number_in (take 9 rest) ≡ eight + 2 ^ 64 * b = ap number_in next ∙ number_in-append (take 8 rest) (b ∷ []) ∙ (rw (size, one) refl) in
+    let all : s + k ≡ 64 = omega arith in
+    let power : 2 ^ 64 ≡ 2 ^ s * 2 ^ k = ap (λ n. 2 ^ n) (sym all) ∙ pow-add 2 s k in
+    let parts : number_in (take 9 rest) ≡ eight + 2 ^ s * (2 ^ k * b) = nine ∙ (rw (power, mul_assoc (2 ^ s) (2 ^ k) b) refl) in
+    let high : number_in (take 9 rest) / 2 ^ s ≡ low + 2 ^ k * b = ap (λ n. n / 2 ^ s) parts ∙ add-mul-div_left eight (2 ^ k * b) (pow_pos s) in
+    let turn : low + 2 ^ k * b ≡ b * 2 ^ k + low = omega (arith, mul_comm (2 ^ k) b) in
+    let small : low < 2 ^ k = low_below rest s (omega arith) in
+    let whole : j + k ≡ w = omega arith in
+    let cut : (b * 2 ^ k + low) % 2 ^ w ≡ b % 2 ^ j * 2 ^ k + low =
+    ap (λ n. (b * 2 ^ k + low) % 2 ^ n) (sym whole) ∙ mod-pow-add (b * 2 ^ k + low) j k ∙ (rw (div-mul-add b (2 ^ k) low small, mod-mul-add b (2 ^ k) low small) refl) in
+    let field : number_in (take 9 rest) / 2 ^ s % 2 ^ w ≡ number_of (take w (drop i (take len (bits_of bytes)))) = field_in bytes i w len 9 (omega arith) within in
+    let back : low + b % 2 ^ j * 2 ^ k ≡ b % 2 ^ j * 2 ^ k + low = omega arith in
+    back ∙ sym cut ∙ ap (λ n. n % 2 ^ w) (sym turn) ∙ ap (λ n. n % 2 ^ w) (sym high) ∙ field
+
+-- what such a field has in the ninth byte is not cut off where it is shifted, and fits above the rest
+pub part_fits_above : (low byte s w : ℕ) → s < 8 → 64 < s + w → w ≤ 64 → low < 2 ^ (64 - s)
+    → (byte % 2 ^ (s + w - 64) * 2 ^ (64 - s) % 18446744073709551616 ≡ byte % 2 ^ (s + w - 64) * 2 ^ (64 - s)) × (low + byte % 2 ^ (s + w - 64) * 2 ^ (64 - s) < 18446744073709551616)
+part_fits_above low byte s w few over wide small =
+    let j : ℕ = s + w - 64 in
+    let k : ℕ = 64 - s in
+    let part : ℕ = byte % 2 ^ j in
+    let above : part * 2 ^ k + low < 2 ^ k * 2 ^ j = mul-add-lt part (2 ^ k) low (2 ^ j) (mod-lt byte (pow_pos j)) small in
+    let whole : k + j ≡ w = omega arith in
+    let power : 2 ^ k * 2 ^ j ≡ 2 ^ w = sym (pow-add 2 k j) ∙ ap (λ n. 2 ^ n) whole in
+    let most : 2 ^ w ≤ 2 ^ 64 = pow-le-pow_right (omega arith) wide in
+    (mod-eq_of_lt (omega (arith, above, power, most)), omega (arith, above, power, most))
 
 pub ones_of-nil : ones_of [] ≡ 0
 unfolding ones_of

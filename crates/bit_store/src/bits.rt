@@ -104,6 +104,16 @@ impl Bits {
         }
     }
 
+    /// The bits of a text, so that more are put behind them; the text's room is kept.
+    pub fn of(text: Bytes) -> Bits
+        requires { length text < 2 ^ 60 }
+        ensures { result ≡ bits_of text }
+    {
+        let bytes = text.into_vec();
+        let len = 8 * bytes.len() as u64;
+        Bits { bytes, len }
+    }
+
     /// Appends the low `width` bits of `value`, the least significant first; after want of memory the
     /// list is as before.
     pub fn push(&mut self, value: u64, width: u32) -> Result<(), Memory>

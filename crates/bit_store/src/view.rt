@@ -25,32 +25,17 @@ impl<'a> Model for BitView<'a> {
     ghost invariant = { λ it. it.len ≤ 8 * length it.bytes.now };
 }
 
-// Fewer than sixteen bytes as a number, the first the least.
-fn few(bytes: &[u8]) -> u128
-    requires { length bytes.now < 16 }
+// At most eight bytes as a number, the first the least.
+fn few(bytes: &[u8]) -> u64
+    requires { length bytes.now ≤ 8 }
     ensures { result ≡ number_in bytes.now }
 {
     let len = bytes.len();
     let mut number = 0;
     for k in 0..len {
-        number = number * 256 + bytes[len - 1 - k] as u128;
+        number = number * 256 + u64::from(bytes[len - 1 - k]);
     }
     number
-}
-
-// The next sixteen bytes as a number, the first the least; past the end they are 0.
-fn window(bytes: &[u8], start: usize) -> u128
-    requires { start ≤ length bytes.now }
-    ensures { result ≡ number_in (take 16 (drop start bytes.now)) }
-{
-    let rest = &bytes[start..];
-    if rest.len() < 16 {
-        return few(rest);
-    }
-    u128::from_le_bytes([
-        rest[0], rest[1], rest[2], rest[3], rest[4], rest[5], rest[6], rest[7], rest[8], rest[9],
-        rest[10], rest[11], rest[12], rest[13], rest[14], rest[15],
-    ])
 }
 
 // Eight bytes as a number, the first the least.
@@ -68,6 +53,48 @@ fn word_at(bytes: &[u8], at: usize) -> u64
         bytes[at + 6],
         bytes[at + 7],
     ])
+}
+
+// The next eight bytes as a number, the first the least; past the end they are 0.
+fn window(bytes: &[u8], start: usize) -> u64
+    requires { start ≤ length bytes.now }
+    ensures { result ≡ number_in (take 8 (drop start bytes.now)) }
+{
+    if bytes.len() - start < 8 {
+        few(&bytes[start..])
+    } else {
+        word_at(bytes, start)
+    }
+}
+
+// One byte as a number.
+fn byte_at(bytes: &[u8], at: usize) -> u64
+    requires { at < length bytes.now }
+    ensures value { result ≡ slice_index_or bytes.now at 0 }
+    ensures byte { result < 256 }
+{
+    u64::from(bytes[at])
+}
+
+// From the start of a byte on, counts the ones of whole words of 64 bits: the place behind them, and
+// how many ones they have.
+fn whole_ones(bytes: &[u8], len: u64, from: u64, to: u64) -> (u64, u64)
+    requires fits { len ≤ 8 * length bytes.now }
+    requires inside { to ≤ len }
+    requires order { from ≤ to }
+    ensures order { from ≤ result.0 }
+    ensures within { result.0 ≤ to }
+    ensures counted { ones_of (take from (take len (bits_of bytes.now))) + result.1 ≡ ones_of (take result.0 (take len (bits_of bytes.now))) }
+{
+    let mut at = from;
+    let mut total = 0;
+    if from % 8 == 0 {
+        while to - at >= 64 {
+            total += u64::from(word_at(bytes, (at / 8) as usize).count_ones());
+            at += 64;
+        }
+    }
+    (at, total)
 }
 
 // From the start of a byte on, goes past words of 64 bits in which the k-th 1 doesn't lie: the place
@@ -188,8 +215,14 @@ impl<'a> BitView<'a> {
         requires wide { width ≤ 64 }
         ensures { result ≡ number_of (take width (drop i self.now)) }
     {
-        let from = window(self.bytes, (i / 8) as usize) >> (i % 8);
-        low_part((from % (1 << 64)) as u64, width)
+        let start = (i / 8) as usize;
+        let used = (i % 8) as u32;
+        let low = window(self.bytes, start) >> used;
+        if used + width <= 64 {
+            return low_part(low, width);
+        }
+        let last = byte_at(self.bytes, start + 8);
+        low + (low_part(last, used + width - 64) << (64 - used))
     }
 
     /// How many of the first `i` bits are 1.
@@ -206,8 +239,7 @@ impl<'a> BitView<'a> {
         requires inside { to ≤ length self.now }
         ensures { ones_of (take from self.now) + result ≡ ones_of (take to self.now) }
     {
-        let mut total = 0;
-        let mut at = from;
+        let (mut at, mut total) = whole_ones(self.bytes, self.len, from, to);
         while to - at > 64 {
             total += u64::from(self.field(at, 64).count_ones());
             at += 64;

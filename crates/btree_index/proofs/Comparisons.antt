@@ -9,11 +9,11 @@ use Rattle.std.proofs.lemmas.List.FromFn.{fill_by_all, map-range_with_len_more, 
 use Rattle.word_file.specs.Difference.{first_difference}
 use Rattle.word_file.specs.Spelling.{offset_at, offset_of, IsPlace}
 use Rattle.word_file.proofs.Places.{placed}
-use Rattle.btree_index.specs.Keys.{IsPaired, key_count, key_offset, key_offsets}
+use Rattle.word_file.specs.Paired.{IsPaired, key_count, key_offset, key_offsets}
 use Rattle.btree_index.specs.Levels.{entries, level, levels, offset_bytes, levels_below, header, spelling}
-use Rattle.btree_index.specs.Agreement.{GoesOn, PartsAt}
-use Rattle.btree_index.proofs.Agreements.{goes_nowhere, goes_both, goes_far, parts_in_first, parts_in_second}
-use Rattle.btree_index.proofs.Gathers.{none_past}
+use Rattle.word_file.specs.Agreement.{GoesOn, PartsAt}
+use Rattle.word_file.proofs.Agreements.{goes_nowhere, goes_both, goes_far, parts_in_first, parts_in_second}
+use Rattle.word_file.proofs.Gathers.{none_past}
 use Rattle.btree_index.proofs.Spellings.{entry_of, offset_bytes_push, length-offset_bytes, level_zero}
 use Rattle.btree_index.proofs.Seeks.{length-key_offsets, length-level, level_reads, entry_in}
 

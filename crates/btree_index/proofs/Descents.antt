@@ -3,7 +3,8 @@ use Rattle.std.proofs.Common.{◌≡◌, ℕ, zero, suc, ◌+◌, ◌-◌, ◌*�
 use Rattle.std.proofs.lemmas.Grind.{pow_more}
 use Rattle.std.proofs.lemmas.List.{length-drop}
 use Rattle.btree_index.specs.Levels.{entries, levels, levels_below, spelling, AreOffsets}
-use Rattle.btree_index.specs.Keys.{key_count, key_at, key_offsets, KeysAscend, IsBelow, AreBelow, IsNotBelow, IsLevel, IsFirstNotBelow}
+use Rattle.word_file.specs.Paired.{key_count, key_at, key_offsets, KeysAscend, IsBelow}
+use Rattle.btree_index.specs.Keys.{AreBelow, IsNotBelow, IsLevel, IsFirstNotBelow}
 use Rattle.btree_index.proofs.Spellings.{entry_of, levels_none}
 use Rattle.btree_index.proofs.Searches.{below_through}
 use Rattle.btree_index.proofs.Seeks.{entry_in, entries_few, is_level, next_part, first_part, top_few}

@@ -4,7 +4,7 @@ use Rattle.std.proofs.lemmas.List.{take_all, length-append}
 use Rattle.word_file.specs.Spelling.{TaggedWords, header, body, spelling, end_of, offset_at}
 use Rattle.word_file.proofs.Bodies.{offset_at_mono}
 use Rattle.word_file.proofs.Headers.{length-header}
-use Rattle.btree_index.specs.Keys.{key_count, key_offset, key_offsets}
+use Rattle.word_file.specs.Paired.{key_count, key_offset, key_offsets}
 use Rattle.btree_index.specs.Levels.{AreOffsets}
 use Rattle.btree_index.proofs.Seeks.{all_fit}
 

@@ -1,9 +1,6 @@
-pub mod Gathers
 pub mod Spellings
 pub mod Searches
 pub mod Seeks
 pub mod Descents
-pub mod Ascents
-pub mod Agreements
 pub mod Comparisons
 pub mod Extents

@@ -7,7 +7,8 @@ use Rattle.std.proofs.lemmas.Grind.{pow_more}
 use Rattle.std.proofs.Math.Nat.{mul-le-mul_right, pow-le-pow_right}
 use Rattle.word_file.specs.Spelling.{IsPlace}
 use Rattle.btree_index.specs.Levels.{entries}
-use Rattle.btree_index.specs.Keys.{key_count, key_at, KeysAscend, IsBelow, AreBelow, IsNotBelow, IsLevel}
+use Rattle.word_file.specs.Paired.{key_count, key_at, KeysAscend, IsBelow}
+use Rattle.btree_index.specs.Keys.{AreBelow, IsNotBelow, IsLevel}
 use Rattle.btree_index.proofs.Spellings.{entry_of, entry_past, stride_some}
 
 -- what is left to search, and how many words were read for it

@@ -8,7 +8,8 @@ use Rattle.std.proofs.lemmas.List.{length-append, drop_at, drop-drop}
 use Rattle.std.proofs.lemmas.List.FromFn.{length-map-range_with_len, get_or-map-range_with_len}
 use Rattle.std.proofs.Math.Nat.{mul-le-mul_right}
 use Rattle.btree_index.specs.Levels.{entries, level, levels, top_from, offset_bytes, levels_below, header, spelling, AreOffsets}
-use Rattle.btree_index.specs.Keys.{key_count, key_offset, key_offsets, IsLevel}
+use Rattle.word_file.specs.Paired.{key_count, key_offset, key_offsets}
+use Rattle.btree_index.specs.Keys.{IsLevel}
 use Rattle.btree_index.proofs.Spellings.{entry_of, entry_past, stride_some, length-offset_bytes, number_at, levels_suc}
 
 pub length-key_offsets : (words : List (List ℕ)) → length (key_offsets words) ≡ key_count words

@@ -1,15 +1,16 @@
 -- Levels and their spelling.
-use Rattle.std.proofs.Common.{◌≡◌, ℕ, zero, suc, ◌+◌, ◌-◌, ◌*◌, ◌^◌, ◌<◌, ◌≤◌, false, eqb, List, [], ◌∷◌, ◌++◌, length, map, get_or, drop, refl, sym, ap, subst, ◌∙◌, append_assoc, arith, inl, inr}
+use Rattle.std.proofs.Common.{◌≡◌, ℕ, zero, suc, ◌+◌, ◌-◌, ◌*◌, ◌^◌, ◌%◌, ◌/◌, ◌<◌, ◌≤◌, false, eqb, List, [], ◌∷◌, ◌++◌, length, map, get_or, drop, bit_and, refl, sym, ap, subst, ◌∙◌, append_assoc, arith, inl, inr}
 use Rattle.std.specs.List.{range_with_len, flat_map}
 use Rattle.std.specs.Int.{div_ceil, w32, w64, to_be_bytes, from_be_bytes}
 use Rattle.std.proofs.lemmas.List.{append-nil, length-append, drop_at, drop-drop}
 use Rattle.std.proofs.lemmas.List.Concat.{flat_map-append}
 use Rattle.std.proofs.lemmas.Bool.{cases_order, ne_eqb, le-leb, lt-leb}
 use Rattle.std.proofs.lemmas.List.FromFn.{fill_by_all, map-range_with_len_more}
-use Rattle.std.proofs.lemmas.Grind.{div_ceil_times}
-use Rattle.std.proofs.Math.Nat.{mul-le-mul_right, pow-le-pow_right, one-le-pow}
+use Rattle.std.proofs.lemmas.Grind.{div_ceil_times, pow_more}
+use Rattle.std.proofs.lemmas.Nat.{pow-add, and_mask, shr_split}
+use Rattle.std.proofs.Math.Nat.{mul-le-mul_left, mul-le-mul_right, pow-le-pow_right, one-le-pow}
 use Rattle.std.specs.Prelude.{slice_index}
-use Rattle.word_file.proofs.Numbers.{wide64}
+use Rattle.file_numbers.proofs.Numbers.{wide64}
 use Rattle.btree_index.specs.Levels.{entries, level, levels, top_from, offset_bytes, levels_below, header, spelling, offsets_at, offsets_in, AreOffsets, IsHeld}
 
 -- ---- entries
@@ -61,6 +62,44 @@ offset_bytes_push offsets offset = flat_map-append (to_be_bytes w64) offsets (of
 
 pub stride_small : (j : ℕ) → j < 16 → 16 ^ j < 2 ^ 64
 stride_small j lt = let some : 0 < 16 = omega arith in let below : j ≤ 15 = omega arith in let le : 16 ^ j ≤ 16 ^ 15 = pow-le-pow_right some below in omega (arith, le)
+
+-- a level is four bits
+pub sixteen : (j : ℕ) → 16 ^ j ≡ 2 ^ (4 * j)
+sixteen zero = refl
+sixteen (suc j) =
+    let next : suc j ≡ j + 1 = omega arith in
+    let bits : 4 * suc j ≡ 4 * j + 4 = omega arith in
+    ap (λ (k : ℕ). 16 ^ k) next ∙ pow_more 16 j ∙ ap (λ (n : ℕ). n * 16) (sixteen j) ∙ sym (ap (λ (k : ℕ). 2 ^ k) bits ∙ pow-add 2 (4 * j) 4)
+
+pub shifted : (j : ℕ) → j < 16 → 1 * 2 ^ (4 * j) % 2 ^ 64 ≡ 16 ^ j
+shifted j lt =
+    let small = stride_small j lt in
+    let one : 1 * 2 ^ (4 * j) ≡ 16 ^ j = omega (arith, sixteen j) in
+    omega (arith, ap (λ (n : ℕ). n % 2 ^ 64) one, small)
+
+pub rest_of : (n j s : ℕ) → s ≡ 16 ^ j → bit_and n (s - 1) ≡ n % 2 ^ (4 * j)
+rest_of n j s is = ap (λ (m : ℕ). bit_and n (m - 1)) (is ∙ sixteen j) ∙ and_mask n (4 * j)
+
+-- where something is left, a stride is at least two, or the whole is less than it was
+pub more_fits : (n j rest : ℕ) → n < 2 ^ 64 → rest ≡ n % 2 ^ (4 * j) → (rest ≡ 0 → ⊥) → n / 2 ^ (4 * j) + 1 < 2 ^ 64
+more_fits n j rest fits rest-is some =
+    let s = 2 ^ (4 * j) in
+    let stride : 0 < s = one-le-pow (4 * j) 2 (omega arith) in
+    let times : n / s * 1 ≤ n / s * s = mul-le-mul_left (n / s) stride in
+    omega (arith, times, shr_split n (4 * j), rest-is, some, fits)
+
+-- as many entries as whole strides, and one more for what is left
+pub entries_whole : (n j rest : ℕ) → rest ≡ n % 2 ^ (4 * j) → rest ≡ 0 → n / 2 ^ (4 * j) ≡ entries n j
+unfolding entries
+entries_whole n j rest rest-is none =
+    let left : n % 2 ^ (4 * j) ≡ 0 = sym rest-is ∙ none in
+    rw (sixteen j, left) (omega arith)
+
+pub entries_more : (n j rest : ℕ) → rest ≡ n % 2 ^ (4 * j) → (rest ≡ 0 → ⊥) → n / 2 ^ (4 * j) + 1 ≡ entries n j
+unfolding entries
+entries_more n j rest rest-is some =
+    let left : 0 < n % 2 ^ (4 * j) = omega (arith, rest-is, some) in
+    rw (sixteen j) (omega (arith, left))
 
 pub stride_some : (j : ℕ) → 0 < 16 ^ j
 stride_some j = one-le-pow j 16 (omega arith)

@@ -1,36 +1,8 @@
--- The keys of a list of words: each pair of words is a key and its value.
-use Rattle.std.specs.Prelude.{◌≡◌, ℕ, ◌*◌, ◌/◌, ◌^◌, ◌<◌, ◌≤◌, List, [], length, map, drop, slice_index_or}
-use Rattle.std.specs.List.{range_with_len}
-use Rattle.std.specs.Ordering.{nat_cmp}
-use Rattle.std.specs.Cmp.Lexicographic.{slice_cmp}
-use Rattle.std.specs.declared.cmp.Ordering.TheVariants.{Less}
+-- Places among the keys of paired words.
+use Rattle.std.specs.Prelude.{◌≡◌, ℕ, ◌*◌, ◌^◌, ◌<◌, ◌≤◌, List, length, drop}
 use Rattle.std.specs.Int.{w64, from_be_bytes}
-use Rattle.word_file.specs.Spelling.{offset_at}
+use Rattle.word_file.specs.Paired.{key_count, key_at, key_offset, IsBelow}
 use Rattle.btree_index.specs.Levels.{entries}
-
-abbrev pub key_count : List (List ℕ) → ℕ
-key_count words = length words / 2
-
--- each key has its value
-abbrev pub IsPaired : List (List ℕ) → Type 0
-IsPaired words = 2 * key_count words ≡ length words
-
--- the key at a place, and its offset
-abbrev pub key_at : List (List ℕ) → ℕ → List ℕ
-key_at words place = slice_index_or words (2 * place) []
-
-abbrev pub key_offset : List (List ℕ) → ℕ → ℕ
-key_offset words place = offset_at words (2 * place)
-
-abbrev pub key_offsets : List (List ℕ) → List ℕ
-key_offsets words = map (key_offset words) (range_with_len 0 (key_count words))
-
--- byte by byte, and a prefix before what it begins
-abbrev pub IsBelow : List ℕ → List ℕ → Type 0
-IsBelow one other = slice_cmp nat_cmp one other ≡ Less
-
-abbrev pub KeysAscend : List (List ℕ) → Type 0
-KeysAscend words = (p q : ℕ) → p < q → q < key_count words → IsBelow (key_at words p) (key_at words q)
 
 -- the first place whose key isn't below, or the number of keys
 pub record IsFirstNotBelow (words : List (List ℕ)) (key : List ℕ) (place : ℕ) : Type 0 where

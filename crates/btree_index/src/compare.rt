@@ -1,35 +1,21 @@
 ghost use Rattle.std.specs.Prelude.{◌≡◌, ℕ, ◌+◌, ◌*◌, ◌<◌, ◌≤◌, List, length, drop, IfOk, IfErr, IfSome, Some};
 ghost use Rattle.word_file.specs.Difference.{first_difference};
 ghost use Rattle.word_file.specs.Spelling.{StartsAt, IsPlace, offset_of};
-ghost use Rattle.btree_index.specs.Keys.{IsPaired, key_offsets};
+ghost use Rattle.word_file.specs.Paired.{IsPaired, key_offsets};
 ghost use Rattle.btree_index.specs.Levels.{level, offset_bytes, header, spelling};
-ghost use Rattle.btree_index.specs.Agreement.{GoesOn, PartsAt};
+ghost use Rattle.word_file.specs.Agreement.{GoesOn, PartsAt};
 
-use crate::levels::{MAGIC, entries_of, key_after, levels_of, stride_of};
-use word_file::{WordFile, first_difference};
+use crate::levels::{MAGIC, entries_of, levels_of, stride_of};
+use word_file::{WordFile, follow, key_after};
 
-/// Where the field ends, if the bytes go on with it at `at`; else where they first don't.
-fn after_field(bytes: &[u8], at: usize, field: &[u8]) -> Result<usize, usize>
-    requires { at ≤ length bytes.now }
-    ensures end { IfOk result (λ end. GoesOn bytes.now field.now at end) }
-    ensures place { IfErr result (λ place. PartsAt bytes.now field.now at place) }
-{
-    let rest = &bytes[at..];
-    let here = &rest[..rest.len().min(field.len())];
-    match first_difference(here, field) {
-        None => Ok(at + field.len()),
-        Some(place) => Err(at + place),
-    }
-}
-
-/// The same of the header.
+/// Where the header ends, if the bytes begin with it; else where they first don't.
 fn after_header(bytes: &[u8], count: u64) -> Result<usize, usize>
     ensures end { IfOk result (λ end. GoesOn bytes.now (header count) 0 end) }
     ensures place { IfErr result (λ place. PartsAt bytes.now (header count) 0 place) }
 {
-    let magic = after_field(bytes, 0, &MAGIC.to_be_bytes())?;
-    let levels = after_field(bytes, magic, &levels_of(count).to_be_bytes())?;
-    after_field(bytes, levels, &count.to_be_bytes())
+    let magic = follow(bytes, 0, &MAGIC.to_be_bytes())?;
+    let levels = follow(bytes, magic, &levels_of(count).to_be_bytes())?;
+    follow(bytes, levels, &count.to_be_bytes())
 }
 
 /// The offset of the key that is so many after the one at `at`.
@@ -57,7 +43,7 @@ fn after_walked(bytes: &[u8], at: usize, words: &WordFile, j: u32) -> Result<usi
     let mut end = at;
     let mut next = words.first();
     while let Some(key) = next {
-        end = after_field(bytes, end, &key.to_be_bytes())?;
+        end = follow(bytes, end, &key.to_be_bytes())?;
         next = key_on(words, key, stride);
     }
     Ok(end)
@@ -82,7 +68,7 @@ fn after_read(
     let mut end = at;
     for k in 0..entries_of(words.count() / 2, j) {
         let entry = lowest + 8 * (k * stride) as usize;
-        end = after_field(bytes, end, &bytes[entry..entry + 8])?;
+        end = follow(bytes, end, &bytes[entry..entry + 8])?;
     }
     Ok(end)
 }

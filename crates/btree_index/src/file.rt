@@ -1,17 +1,19 @@
 ghost use Rattle.std.specs.Prelude.{◌≡◌, ℕ, ◌+◌, ◌*◌, ◌<◌, ◌≤◌, length, slice_index, IfOk, OnOk, Ok, Err, Some};
-ghost use Rattle.btree_index.specs.Keys.{IsPaired, key_count, key_offsets, KeysAscend, IsFirstNotBelow};
+ghost use Rattle.word_file.specs.Paired.{IsPaired, key_count, key_offsets, KeysAscend};
+ghost use Rattle.btree_index.specs.Keys.{IsFirstNotBelow};
 ghost use Rattle.btree_index.specs.Levels.{levels, spelling};
 ghost use Rattle.word_file.specs.Difference.{first_difference};
 ghost use Rattle.word_file.specs.declared.access.AccessError.TheVariants.{Differs};
 
 use crate::compare::difference;
-use crate::levels::{entries_of, levels_of, offsets_of, spell, u64_at};
+use crate::levels::{entries_of, levels_of, spell};
 use crate::search::search;
 use agg_outside::{Bytes, Memory, Steps};
+use file_numbers::u64_at;
 use std::alloc::Global;
 use std::marker::Model;
 use std::sync::ledger::Ledger;
-use word_file::{AccessError, WordFile};
+use word_file::{AccessError, WordFile, key_offsets};
 
 /// The B-tree accessor of a word file.
 #[derive(Debug, Drop)]
@@ -50,7 +52,7 @@ impl BTreeFile {
         requires { IsPaired words.now.words }
         ensures { IfOk result (λ b. b ≡ key_offsets words.now.words) }
     {
-        let offsets = offsets_of(alloc, words)?;
+        let offsets = key_offsets(alloc, words)?;
         let bytes = spell(alloc, offsets.as_slice())?;
         Ok(accessor_of(words, Bytes::from_vec(bytes)))
     }

@@ -5,8 +5,11 @@ mod compare;
 mod file;
 mod levels;
 mod search;
+mod shared;
 
 pub use file::BTreeFile;
+pub use shared::shares_btree;
+pub use word_file::AccessError;
 
 #[cfg(test)]
 mod tests;

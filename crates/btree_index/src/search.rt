@@ -1,10 +1,12 @@
 ghost use Rattle.std.specs.Prelude.{◌≡◌, ℕ, ◌+◌, ◌-◌, ◌*◌, ◌/◌, ◌<◌, ◌≤◌, ◌↔◌, [], length, slice_index_or, min, IsTrue};
 ghost use Rattle.word_file.specs.Spelling.{StartsAt, IsPlace};
 ghost use Rattle.btree_index.specs.Levels.{entries};
-ghost use Rattle.btree_index.specs.Keys.{key_count, KeysAscend, IsBelow, AreBelow, IsNotBelow, IsLevel};
+ghost use Rattle.word_file.specs.Paired.{key_count, KeysAscend, IsBelow};
+ghost use Rattle.btree_index.specs.Keys.{AreBelow, IsNotBelow, IsLevel};
 
-use crate::levels::{entries_of, u64_at};
+use crate::levels::entries_of;
 use agg_outside::Steps;
+use file_numbers::u64_at;
 use std::sync::ledger::Ledger;
 use word_file::WordFile;
 

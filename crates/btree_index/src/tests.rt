@@ -1,17 +1,16 @@
 ghost use Rattle.std.specs.Prelude.{◌≡◌, ℕ, ◌*◌, ◌<◌, [], slice_index_or, IsTrue, IfSome};
 ghost use Rattle.std.specs.Option.{ForSome};
 ghost use Rattle.word_file.specs.Spelling.{StartsAt, IsPlace};
-ghost use Rattle.btree_index.specs.Keys.{IsPaired, IsBelow, KeysAscend, key_offsets};
+ghost use Rattle.word_file.specs.Paired.{IsPaired, IsBelow, KeysAscend, key_offsets};
 
 use super::*;
-use crate::levels::key_after;
 use agg_outside::{Bytes, Steps};
 use std::alloc::Global;
 use std::marker::Brand;
 use std::process::Abort;
 use std::sync::ledger::{Blank, Ledger};
 use std::test::Fail;
-use word_file::{AccessError, Tag, WordFile, WordWriter};
+use word_file::{Tag, WordFile, WordWriter, is_paired, keys_ascend};
 
 /// So many keys of two bytes, 00 01, 00 03 and so on, with empty values.
 fn odd_keys(alloc: Global, count: u16) -> Result<WordFile, Fail> {
@@ -30,46 +29,6 @@ fn odd_keys(alloc: Global, count: u16) -> Result<WordFile, Fail> {
         writer.push(&[])?;
     }
     Ok(writer.finish())
-}
-
-fn is_less<L: Ledger>(words: &WordFile, key: u64, next: u64, steps: &mut Steps<L>) -> bool
-    requires key { StartsAt words.now.words key }
-    requires next { StartsAt words.now.words next }
-    ensures { IsTrue result → (i j : ℕ) → IsPlace words.now.words key i → IsPlace words.now.words next j → IsBelow (slice_index_or words.now.words i []) (slice_index_or words.now.words j []) }
-{
-    let one = words.word_at(key, steps);
-    let other = words.word_at(next, steps);
-    one.cmp(&other).is_lt()
-}
-
-fn goes_up<L: Ledger>(words: &WordFile, key: u64, next: Option<u64>, steps: &mut Steps<L>) -> bool
-    requires key { StartsAt words.now.words key }
-    requires next { ForSome next (λ after. StartsAt words.now.words after) }
-    ensures { IsTrue result → IfSome next (λ after. (i j : ℕ) → IsPlace words.now.words key i → IsPlace words.now.words after j → IsBelow (slice_index_or words.now.words i []) (slice_index_or words.now.words j [])) }
-{
-    match next {
-        None => true,
-        Some(after) => is_less(words, key, after, steps),
-    }
-}
-
-fn keys_ascend<L: Ledger>(words: &WordFile, steps: &mut Steps<L>) -> bool
-    requires { IsPaired words.now.words }
-    ensures { IsTrue result → KeysAscend words.now.words }
-{
-    // That there are fewer than 2^64 words comes with their number.
-    let _count = words.count();
-    let mut last = words.first();
-    let mut place = 0u64;
-    while let Some(key) = last {
-        let next = key_after(words, key);
-        if !goes_up(words, key, next, steps) {
-            return false;
-        }
-        last = next;
-        place += 1;
-    }
-    true
 }
 
 fn finds_each<L: Ledger>(rt: &impl Abort, words: &WordFile, index: &BTreeFile, blank: Blank)
@@ -93,12 +52,6 @@ fn finds_each<L: Ledger>(rt: &impl Abort, words: &WordFile, index: &BTreeFile, b
     }
     assert_eq!(rt; index.seek(words, &[], &mut steps), 0);
     assert_eq!(rt; index.seek(words, &[0xff], &mut steps), count);
-}
-
-fn is_paired(words: &WordFile) -> bool
-    ensures { IsTrue result → IsPaired words.now.words }
-{
-    words.count() / 2 * 2 == words.count()
 }
 
 #[test]

@@ -1,6 +1,6 @@
 //! The words after the program's name.
 #![tactic(auto)]
 
-mod step_size;
+mod words;
 
-pub use step_size::step_size_of;
+pub use words::{Command, WordsError, read_words};

@@ -5,7 +5,7 @@ use Rattle.agg_model.specs.Pairs.{KeysAscend, pair_keys, ArePairs}
 use Rattle.word_file.specs.declared.tag.Tag.{Tag}
 use Rattle.word_file.specs.Spelling.{TaggedWords}
 use Rattle.word_file.specs.Reading.{tagged}
-use Rattle.btree_index.specs.Keys as keys
+use Rattle.word_file.specs.Paired as keys
 use Rattle.domain_core.specs.KvFile.{words_of, pairs_in, tagged_pairs, IsHeld}
 use Rattle.domain_core.proofs.Words.{pairs_in-words_of, IsPaired-words_of}
 

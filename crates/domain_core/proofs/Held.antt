@@ -4,7 +4,8 @@ use Rattle.std.proofs.lemmas.List.FromFn.{length-map-range_with_len, get_or-map-
 use Rattle.agg_model.specs.declared.contents.Pair.{Pair}
 use Rattle.word_file.specs.Spelling.{TaggedWords, IsPlace, offset_at, offset_of, spelling}
 use Rattle.word_file.specs.Reading.{tagged}
-use Rattle.btree_index.specs.Keys as keys
+use Rattle.word_file.specs.Paired as keys
+use Rattle.btree_index.specs.Keys as places
 use Rattle.domain_core.specs.KvFile.{pairs_in, key_at, IsHeld, IsFirstNotBelow, kv_spelling, tagged_pairs}
 use Rattle.std.proofs.lemmas.Option.{slice_get-get_or}
 use Rattle.domain_core.proofs.Words.{length-words_of, key_count-words_of, IsPaired-words_of, KeysAscend-words_of, key-words_of, value-words_of, key_at-get_or, first_not_below}
@@ -42,9 +43,9 @@ module _ (file : TaggedWords) (index : List ℕ) (h : IsHeld file index) where
   held_value place d below =
       ap (λ ws. get_or ws (2 * place + 1) []) h.paired ∙ value-words_of (pairs_in file.words) place (2 * place + 1) d refl below
 
-  pub held_first : (key : List ℕ) (place : ℕ) → keys.IsFirstNotBelow file.words key place → IsFirstNotBelow (pairs_in file.words) key place
+  pub held_first : (key : List ℕ) (place : ℕ) → places.IsFirstNotBelow file.words key place → IsFirstNotBelow (pairs_in file.words) key place
   held_first key place first =
-      first_not_below (pairs_in file.words) key place h.ascend (subst (λ ws. keys.IsFirstNotBelow ws key place) h.paired first)
+      first_not_below (pairs_in file.words) key place h.ascend (subst (λ ws. places.IsFirstNotBelow ws key place) h.paired first)
 
   -- a value stands behind each key
   pub held_next : (place : ℕ) → place < length (pairs_in file.words) → offset_of file.words (2 * place + 1) ≡ Some (offset_at file.words (2 * place + 1))

@@ -3,3 +3,4 @@ pub mod Checked
 pub mod Held
 pub mod LookBack
 pub mod Words
+pub mod KvFileLaws

@@ -3,7 +3,7 @@ use Rattle.std.proofs.Common.{◌≡◌, ℕ, ◌+◌, ◌*◌, ◌-◌, ◌<◌
 use Rattle.std.specs.Option.{option_or}
 use Rattle.std.proofs.lemmas.List.{take_more}
 use Rattle.agg_model.specs.Pairs.{word_in, newest_word}
-use Rattle.agg_model.specs.CoverageLaws.{newest_word-push}
+use Rattle.agg_model.proofs.CoverageLaws.{newest_word-push}
 use Rattle.btree_index.specs.Levels.{levels}
 use Rattle.domain_core.specs.KvFile.{TaggedPairs, pairs_of_files, words_read}
 

@@ -6,7 +6,8 @@ use Rattle.std.specs.declared.cmp.Ordering.{Ordering}
 use Rattle.std.specs.declared.cmp.Ordering.TheVariants.{Less, Equal}
 use Rattle.agg_model.specs.declared.contents.Pair.{Pair}
 use Rattle.agg_model.specs.Pairs.{IsBelow, KeysAscend, pair_keys, word_in}
-use Rattle.btree_index.specs.Keys as keys
+use Rattle.word_file.specs.Paired as keys
+use Rattle.btree_index.specs.Keys as places
 use Rattle.domain_core.specs.KvFile.{words_of, pairs_in, key_at, IsFirstNotBelow}
 
 pub pairs_in-words_of : (ps : List Pair) → pairs_in (words_of ps) ≡ ps
@@ -84,7 +85,7 @@ split a b h = split-by (nat_lt a b) refl
     split-by false e = let over = ltb-false a b e in inr (omega arith)
 
 -- a place found among the words is one among the pairs
-pub first_not_below : (ps : List Pair) (key : List ℕ) (place : ℕ) → KeysAscend (pair_keys ps) → keys.IsFirstNotBelow (words_of ps) key place → IsFirstNotBelow ps key place
+pub first_not_below : (ps : List Pair) (key : List ℕ) (place : ℕ) → KeysAscend (pair_keys ps) → places.IsFirstNotBelow (words_of ps) key place → IsFirstNotBelow ps key place
 first_not_below ps key place up first = record {
   within = omega (arith, first.within, key_count-words_of ps);
   before = λ p h. subst (λ k. IsBelow k key) (key-words_of ps p (2 * p) refl) (first.before p h);

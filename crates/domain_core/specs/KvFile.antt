@@ -9,7 +9,7 @@ use Rattle.agg_model.specs.Pairs.{IsBelow, KeysAscend, pair_keys}
 use Rattle.word_file.specs.declared.tag.Tag.{Tag}
 use Rattle.word_file.specs.Spelling.{TaggedWords, spelling}
 use Rattle.word_file.specs.Reading.{tagged}
-use Rattle.btree_index.specs.Keys.{key_offsets}
+use Rattle.word_file.specs.Paired.{key_offsets}
 use Rattle.btree_index.specs.Levels.{levels}
 
 -- what a file is of, and its pairs

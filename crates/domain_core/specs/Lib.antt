@@ -1,2 +1,1 @@
 pub mod KvFile
-pub mod KvFileLaws

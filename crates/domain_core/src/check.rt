@@ -3,17 +3,13 @@ ghost use Rattle.std.specs.Prelude.{◌≡◌, ◌+◌, ◌<◌, ◌↔◌, leng
 ghost use Rattle.agg_model.specs.Pairs.{IsBelow, IsPair, KeysAscend, ArePairs, pair_keys};
 ghost use Rattle.domain_core.specs.KvFile.{key_at};
 
-use agg_model::{Pair, Pairs};
-
-const KEY_MOST: usize = 64;
-
-const VALUE_MOST: usize = 65_535;
+use agg_model::{KEY_MOST, Pair, Pairs, VALUE_MOST};
 
 fn is_pair(pair: &Pair) -> bool
     ensures { IsTrue result ↔ IsPair pair.now }
 {
-    let key = pair.key.as_slice().len();
-    let value = pair.value.as_slice().len();
+    let key = pair.key.as_slice().len() as u64;
+    let value = pair.value.as_slice().len() as u64;
     1 <= key && key <= KEY_MOST && value <= VALUE_MOST
 }
 

@@ -6,6 +6,7 @@ mod check;
 mod kv_file;
 mod newest;
 mod parts;
+mod shared;
 mod step;
 
 pub use agg_model::{Pair, Pairs};
@@ -13,6 +14,7 @@ pub use build::{build_kv, build_step, file_laws, kv_tag};
 pub use check::are_pairs;
 pub use kv_file::KvFile;
 pub use newest::newest_value;
+pub use shared::shares_kv_file;
 pub use step::step_pairs;
 
 #[cfg(test)]

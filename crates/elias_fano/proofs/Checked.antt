@@ -1,5 +1,5 @@
 -- From what is wrong to what is read.
-use Rattle.std.proofs.Common.{◌≡◌, ℕ, ◌^◌, ◌<◌, Bool, true, false, cond, eqb, List, length, take, drop, Option, Some, None, refl, sym, arith, eq-eqb}
+use Rattle.std.proofs.Common.{◌≡◌, ℕ, ◌^◌, ◌<◌, ◌==◌, Bool, true, false, cond, if◌then◌else◌, eqb, List, length, take, drop, Option, Some, None, refl, sym, arith, eq-eqb}
 use Rattle.std.specs.Option.{option_or, option_map}
 use Rattle.std.specs.Int.{w64, from_be_bytes}
 use Rattle.std.proofs.lemmas.Bool.{le-ltb, ne_eqb, eqb-true}
@@ -14,12 +14,12 @@ use Rattle.elias_fano.specs.Reading.{items_of, first_descent, item_fault, fault_
 use Rattle.elias_fano.proofs.Places.{item-small}
 use Rattle.elias_fano.proofs.Faults.{ascends-none, ascending}
 
-pub fault-descends : (last : ℕ) (p : Parts) (i : ℕ) → ones_of p.upper ≡ p.count → first_descent 0 0 (items_of p) ≡ Some i → Some (Descends i) ≡ item_fault last p
-fault-descends last p i ones e = sym (rw (eq-eqb (ones_of p.upper) p.count ones, e) refl)
+pub fault-count : (last found : ℕ) (p : Parts) → (ones_of p.upper ≡ p.count → ⊥) → found ≡ ones_of p.upper → Some (Count p.count found) ≡ item_fault last p
+fault-count last found p ne is = sym (rw (ne_eqb (ones_of p.upper) p.count ne, ← is) refl)
 
-pub fault-last : (last before : ℕ) (p : Parts) → ones_of p.upper ≡ p.count → first_descent 0 0 (items_of p) ≡ None → before ≡ last_of (items_of p) → (before ≡ last → ⊥) → Some (Last last before) ≡ item_fault last p
-fault-last last before p ones e is ne =
-    sym (rw (eq-eqb (ones_of p.upper) p.count ones, e, ← is, ne_eqb before last ne) refl)
+pub fault-ended : (last before : ℕ) (fall : Option ℕ) (p : Parts) → ones_of p.upper ≡ p.count → fall ≡ first_descent 0 0 (items_of p) → before ≡ last_of (items_of p)
+    → option_or (option_map (λ i. Descends i) fall) (if before == last then None else Some (Last last before)) ≡ item_fault last p
+fault-ended last before fall p ones e is = sym (rw (eq-eqb (ones_of p.upper) p.count ones, ← e, ← is) refl)
 
 pub fault-none : (last before : ℕ) (p : Parts) → ones_of p.upper ≡ p.count → first_descent 0 0 (items_of p) ≡ None → before ≡ last_of (items_of p) → before ≡ last → None ≡ item_fault last p
 fault-none last before p ones e is eq =

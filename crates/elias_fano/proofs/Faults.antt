@@ -1,5 +1,6 @@
 -- What is wrong first.
-use Rattle.std.proofs.Common.{◌≡◌, ℕ, zero, suc, ◌+◌, ◌-◌, ◌<◌, ◌≤◌, Bool, true, false, List, [], ◌∷◌, ◌++◌, length, take, drop, get_or, replicate, Option, Some, None, refl, sym, ap, ◌∙◌, arith, inl, inr}
+use Rattle.std.proofs.Common.{◌≡◌, ℕ, zero, suc, ◌+◌, ◌-◌, ◌<◌, ◌≤◌, Bool, true, false, List, [], ◌∷◌, ◌++◌, length, take, drop, get_or, replicate, Option, Some, None, cond, nat_lt, if◌then◌else◌, refl, sym, ap, ◌∙◌, arith, inl, inr}
+use Rattle.std.specs.Option.{option_or}
 use Rattle.std.specs.List.{position_from}
 use Rattle.std.specs.List.Sorted.{IsNonDecreasing}
 use Rattle.std.proofs.lemmas.Bool.{cases_lt, le-ltb, lt-ltb}
@@ -85,13 +86,6 @@ descent-more items before item i all lt is le so_far =
     let same : first_descent before i (drop i items) ≡ first_descent item (i + 1) (drop (i + 1) items) = rw (e, le-ltb item before le) refl in
     sym same ∙ so_far
 
-pub descent-here : (items : List ℕ) (before item i : ℕ) (all : Option ℕ) → i < length items → item ≡ get_or items i 0 → item < before → first_descent before i (drop i items) ≡ all → all ≡ Some i
-unfolding first_descent
-descent-here items before item i all lt is less so_far =
-    let e : drop i items ≡ item ∷ drop (i + 1) items = drop_more items i 0 lt ∙ ap (λ x. x ∷ drop (i + 1) items) (sym is) in
-    let same : first_descent before i (drop i items) ≡ Some i = rw (e, lt-ltb item before less) refl in
-    sym so_far ∙ same
-
 pub last-more : (items : List ℕ) (i : ℕ) → i < length items → last_of (take (i + 1) items) ≡ get_or items i 0
 last-more items i lt =
     let front = take i items in
@@ -106,3 +100,25 @@ unfolding first_descent
 ended items before i le so_far =
     let none : first_descent before i (drop i items) ≡ None = ap (first_descent before i) (drop_all i items le) in
     sym so_far ∙ none
+
+-- one item on, with the first fall that is known so far
+pub fall-more : (items : List ℕ) (before item i : ℕ) (known all : Option ℕ) → i < length items → item ≡ get_or items i 0 → option_or known (first_descent before i (drop i items)) ≡ all
+    → option_or (option_or known (if nat_lt item before then Some i else None)) (first_descent item (i + 1) (drop (i + 1) items)) ≡ all
+unfolding first_descent
+fall-more items before item i (Some x) all lt is so_far = so_far
+fall-more items before item i None all lt is so_far =
+    let e : drop i items ≡ item ∷ drop (i + 1) items = drop_more items i 0 lt ∙ ap (λ x. x ∷ drop (i + 1) items) (sym is) in
+    let step : first_descent before i (drop i items) ≡ option_or (if nat_lt item before then Some i else None) (first_descent item (i + 1) (drop (i + 1) items)) = ap (first_descent before i) e ∙ by_test (nat_lt item before) i (first_descent item (i + 1) (drop (i + 1) items)) in
+    sym step ∙ so_far
+  where
+    by_test : (t : Bool) (i : ℕ) (rest : Option ℕ) → cond t (Some i) rest ≡ option_or (cond t (Some i) None) rest
+    by_test true i rest = refl
+    by_test false i rest = refl
+
+-- nothing is left, and the fall that is known is the first
+pub fall-ended : (items : List ℕ) (before i : ℕ) (known all : Option ℕ) → length items ≤ i → option_or known (first_descent before i (drop i items)) ≡ all → known ≡ all
+unfolding first_descent
+fall-ended items before i (Some x) all le so_far = so_far
+fall-ended items before i None all le so_far =
+    let none : first_descent before i (drop i items) ≡ None = ap (first_descent before i) (drop_all i items le) in
+    sym none ∙ so_far

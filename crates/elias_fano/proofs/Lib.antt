@@ -11,3 +11,6 @@ pub mod Checked
 pub mod Joined
 pub mod Spelled
 pub mod ReadBack
+pub mod Known
+pub mod Behind
+pub mod Opened

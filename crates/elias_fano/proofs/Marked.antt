@@ -45,3 +45,8 @@ pub places_inside : (used block at len : ℕ) → at ≡ (used - 1) * block → 
 places_inside used block at len e le j lt =
     let most : j ≤ used - 1 = omega arith in
     omega (arith, e, mul-le-mul_right block most)
+
+-- the same with no mark
+pub zero_from_start : (bits : List Bool) (k : ℕ) (r : Option ℕ) → IfSome r (λ p. (0 ≤ p) × IsZeroAt bits p × (p + ones_of (take 0 bits) ≡ 0 + ones_of (take p bits) + k)) → IfSome r (λ p. IsZeroAt bits p × (p ≡ ones_of (take p bits) + k))
+zero_from_start bits k (Some p) f = (f.1, omega (arith, f.2, ones_of-nil))
+zero_from_start bits k None f = tt

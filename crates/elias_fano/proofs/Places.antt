@@ -1,7 +1,7 @@
 -- The places of the ones, and the items that are read there.
 use Rattle.std.proofs.Common.{◌≡◌, ℕ, zero, suc, ◌+◌, ◌-◌, ◌*◌, ◌/◌, ◌%◌, ◌^◌, ◌<◌, ◌≤◌, Bool, true, false, List, [], ◌∷◌, ◌++◌, Option, Some, None, reverse, length, take, drop, get_or, refl, sym, ap, ◌∙◌, arith}
 use Rattle.std.specs.Prelude.{IfNone, IsSome}
-use Rattle.std.proofs.Math.Nat.{mul-le-mul_right, mul_comm}
+use Rattle.std.proofs.Math.Nat.{mul-le-mul_right, mul_comm, mod-eq_of_lt}
 use Rattle.std.proofs.lemmas.Nat.{pow_pos, pow-add, mul-add-lt, div-mul-add, mod-mul-add, div_below}
 use Rattle.std.proofs.lemmas.List.{length-take, length-drop, drop_more, take_more, reverse-append}
 use Rattle.std.proofs.lemmas.List.FromFn.{length-map-range_with_len, get_or-map-range_with_len}
@@ -55,20 +55,25 @@ item-parts p i len lt =
     let small : f < 2 ^ p.width = field-lt p.width i p.lower (omega (arith, field-within p.width i p.count lt)) in
     (div-mul-add (place_of_one p.upper i - i) (2 ^ p.width) f small, mod-mul-add (place_of_one p.upper i - i) (2 ^ p.width) f small)
 
--- an item is a number of 64 bits
-pub item-small : (p : Parts) (last i : ℕ) → length p.lower ≡ p.count * p.width → length p.upper ≡ upper_len p.width p.count last → ones_of p.upper ≡ p.count → p.width < 64 → last < 2 ^ 64 → i < p.count → item_at p i < 2 ^ 64
-item-small p last i len up ones narrow fits lt =
-    let l : ℕ = p.width in
-    let h : ℕ = place_of_one p.upper i - i in
-    let f : ℕ = number_of (take l (drop (i * l) p.lower)) in
-    let small : f < 2 ^ l = field-lt l i p.lower (omega (arith, field-within l i p.count lt)) in
-    let room = place-room p.upper i (omega arith) in
-    let high : h ≤ last / 2 ^ l = omega (arith, room.0, room.1) in
+-- an upper part that isn't above that of a last number, and low bits, are a number of 64 bits
+pub high-small : (l last h f : ℕ) → l < 64 → last < 2 ^ 64 → h ≤ last / 2 ^ l → f < 2 ^ l → h * 2 ^ l + f < 2 ^ 64
+high-small l last h f narrow fits high small =
     let places : (64 - l) + l ≡ 64 = omega arith in
     let whole : 2 ^ (64 - l) * 2 ^ l ≡ 2 ^ 64 = sym (pow-add 2 (64 - l) l) ∙ ap (λ n. 2 ^ n) places in
     let below : last / 2 ^ l < 2 ^ (64 - l) = div_below last (2 ^ l) (2 ^ (64 - l)) (pow_pos l) (omega (arith, whole)) in
     let place : h * 2 ^ l + f < 2 ^ l * 2 ^ (64 - l) = mul-add-lt h (2 ^ l) f (2 ^ (64 - l)) (omega arith) small in
     omega (arith, place, whole, mul_comm (2 ^ l) (2 ^ (64 - l)))
+
+-- nothing of it is lost where it is shifted
+pub high-fits : (l last h f : ℕ) → l < 64 → last < 2 ^ 64 → h ≤ last / 2 ^ l → f < 2 ^ l → (h * 2 ^ l % 18446744073709551616 ≡ h * 2 ^ l) × (h * 2 ^ l + f < 18446744073709551616)
+high-fits l last h f narrow fits high small = let all = high-small l last h f narrow fits high small in (mod-eq_of_lt (omega (arith, all)), omega (arith, all))
+
+-- an item is a number of 64 bits
+pub item-small : (p : Parts) (last i : ℕ) → length p.lower ≡ p.count * p.width → length p.upper ≡ upper_len p.width p.count last → ones_of p.upper ≡ p.count → p.width < 64 → last < 2 ^ 64 → i < p.count → item_at p i < 2 ^ 64
+item-small p last i len up ones narrow fits lt =
+    let l : ℕ = p.width in
+    let room = place-room p.upper i (omega arith) in
+    high-small l last (place_of_one p.upper i - i) (number_of (take l (drop (i * l) p.lower))) narrow fits (omega (arith, room.0, room.1)) (field-lt l i p.lower (omega (arith, field-within l i p.count lt)))
 
 pub length-items_of : (p : Parts) → length (items_of p) ≡ p.count
 unfolding items_of

@@ -10,7 +10,7 @@ use Rattle.bit_store.proofs.Numbers.{number_of-low_bits}
 use Rattle.bit_store.proofs.Texts.{length-bits_of, bits_of-drop, bits_of-append, bits_of-bytes_from, bits_of-text_of, length-bytes_from}
 use Rattle.elias_fano.specs.declared.parts.Parts.{Parts}
 use Rattle.elias_fano.specs.declared.error.EfError.TheVariants.{Unused}
-use Rattle.elias_fano.specs.Spelling.{IsListable, spelling, last_of, low_width, lower_bits, upper_bits, upper_len}
+use Rattle.elias_fano.specs.Spelling.{IsListable, spelling, last_of, low_width, lower_bits, upper_bits, upper_len, upper_of}
 use Rattle.elias_fano.specs.Reading.{items_of, item_fault, fault_in, place_of_one, first_one, unused_one, count_in, last_in, width_in, lower_len_in, upper_len_in, upper_start_in, asked_in, parts_in}
 use Rattle.elias_fano.proofs.Lower.{fields-lower, field-fields, length-fields}
 use Rattle.elias_fano.proofs.Upper.{walk-all, ones_of-walk, place-walk, highs}
@@ -84,9 +84,18 @@ unfolding made
 parts_are bytes l items a b c d = same (count_in bytes) (length items) (width_in bytes) l (take (lower_len_in bytes) (bits_of (drop 16 bytes))) (lower_bits l items) (take (upper_len_in bytes) (bits_of (drop (upper_start_in bytes) bytes))) (upper_bits l items) a b c d
 
 -- the text of a list is read as that list
-pub read_back : (items bytes : List ℕ) → IsListable items → bytes ≡ spelling items → (fault_in bytes ≡ None) × (items_of (parts_in bytes) ≡ items)
+-- the text of a list has nothing wrong, and says the list
+pub record Told (items bytes : List ℕ) : Type 0 where
+  pub some : 0 < count_in bytes
+  pub size : length bytes ≡ asked_in bytes
+  pub unused : unused_one bytes ≡ None
+  pub fine : item_fault (last_in bytes) (parts_in bytes) ≡ None
+  pub again : items_of (parts_in bytes) ≡ items
+  pub upper : take (upper_len_in bytes) (bits_of (drop (upper_start_in bytes) bytes)) ≡ upper_of items
+
+pub told : (items bytes : List ℕ) → IsListable items → bytes ≡ spelling items → Told items bytes
 unfolding spelling
-read_back items bytes can e =
+told items bytes can e =
     let l : ℕ = low_width (length items) (last_of items) in
     let s = said l items bytes can e in
     let low = lower_bits l items in
@@ -131,4 +140,9 @@ read_back items bytes can e =
     let unused : unused_one bytes ≡ None = ap (λ o. option_or o (first_one (bits_of bytes) (8 * upper_start_in bytes + upper_len_in bytes) (8 * asked_in bytes))) first ∙ second in
     let fine : item_fault (last_in bytes) (parts_in bytes) ≡ None = ap (λ p. item_fault (last_in bytes) p) parts ∙ ap (λ x. item_fault x (parts_for l items)) s.last ∙ items_fine l items can in
     let some : 0 < count_in bytes = omega (arith, s.count, can.some) in
-    (fault-late bytes some size ∙ ap (λ o. option_or (option_map (λ bit. Unused bit) o) (item_fault (last_in bytes) (parts_in bytes))) unused ∙ fine, ap items_of parts ∙ items_again l items can)
+    record { some = some; size = size; unused = unused; fine = fine; again = ap items_of parts ∙ items_again l items can; upper = upper }
+
+pub read_back : (items bytes : List ℕ) → IsListable items → bytes ≡ spelling items → (fault_in bytes ≡ None) × (items_of (parts_in bytes) ≡ items)
+read_back items bytes can e =
+    let t = told items bytes can e in
+    (fault-late bytes t.some t.size ∙ ap (λ o. option_or (option_map (λ bit. Unused bit) o) (item_fault (last_in bytes) (parts_in bytes))) t.unused ∙ t.fine, t.again)

@@ -30,14 +30,14 @@ pub below_above : (a b word v : ℕ) → word < 2 ^ a → v < 2 ^ b → word + v
 below_above a b word v small less = omega (arith, mul-add-lt v (2 ^ a) word (2 ^ b) less small, pow-add 2 a b)
 
 -- one field more
-pub field_waits : (l used word low : ℕ) (bits : List Bool) (items : List ℕ) (i : ℕ) → i < length items → word < 2 ^ used → low ≡ get_or items i 0 % 2 ^ l → bits ++ low_bits used word ≡ fields l (take i items)
-    → bits ++ low_bits (used + l) (word + low * 2 ^ used) ≡ fields l (take (i + 1) items)
-field_waits l used word low bits items i lt small is held =
+pub field_waits : (l used word low : ℕ) (bits front : List Bool) (items : List ℕ) (i : ℕ) → i < length items → word < 2 ^ used → low ≡ get_or items i 0 % 2 ^ l → bits ++ low_bits used word ≡ front ++ fields l (take i items)
+    → bits ++ low_bits (used + l) (word + low * 2 ^ used) ≡ front ++ fields l (take (i + 1) items)
+field_waits l used word low bits front items i lt small is held =
     let v : ℕ = get_or items i 0 in
     let field : low_bits l low ≡ low_bits l v = same_low l low v (ap (λ n. n % 2 ^ l) is ∙ low_of_low v l l (omega arith)) in
     let more : fields l (take (i + 1) items) ≡ fields l (take i items) ++ low_bits l v =
     ap (fields l) (take_more items i 0 lt) ∙ flat_map-append (low_bits l) (take i items) (v ∷ []) ∙ ap (λ bs. fields l (take i items) ++ bs) (append-nil (low_bits l v)) in
-    ap (λ bs. bits ++ bs) (bits_above used l word low small) ∙ sym (append_assoc bits (low_bits used word) (low_bits l low)) ∙ (rw (held, field) (sym more))
+    ap (λ bs. bits ++ bs) (bits_above used l word low small) ∙ sym (append_assoc bits (low_bits used word) (low_bits l low)) ∙ (rw (held, field) (append_assoc front (fields l (take i items)) (low_bits l v) ∙ ap (λ bs. front ++ bs) (sym more)))
 
 -- the bits of a rise
 rise_bits : (rise : ℕ) → low_bits (rise + 1) (2 ^ rise) ≡ replicate rise false ++ true ∷ []

@@ -3,7 +3,8 @@ use Rattle.std.specs.Prelude.{◌≡◌, ℕ, ◌+◌, ◌-◌, ◌*◌, ◌^◌
 use Rattle.bit_store.specs.Bits.{ones_of}
 use Rattle.elias_fano.specs.declared.marks.Marks.{Marks}
 use Rattle.elias_fano.specs.declared.parts.Parts.{Parts}
-use Rattle.elias_fano.specs.Reading.{place_of_one, IsListed}
+use Rattle.elias_fano.specs.Spelling.{upper_of}
+use Rattle.elias_fano.specs.Reading.{place_of_one, items_of, IsListed}
 
 -- mark j is the number of ones before bit j * block; the marks go over all bits, and are near each other
 pub record AreMarks (bits : List Bool) (m : Marks) : Type 0 where
@@ -15,10 +16,15 @@ pub record AreMarks (bits : List Bool) (m : Marks) : Type 0 where
   pub near : 512 * m.block ≤ length bits + 512 * 64
   pub ones : (j : ℕ) → j < m.used → slice_index m.ones j ≡ ones_of (take (j * m.block) bits)
 
--- a list of items with the marks of its upper part
-pub record IsMarked (p : Parts) (m : Marks) : Type 0 where
+-- marks of the text of these items
+abbrev pub AreMarksOf : List ℕ → Marks → Type 0
+AreMarksOf items m = AreMarks (upper_of items) m
+
+-- the parts of the text of their items
+pub record IsKnown (p : Parts) : Type 0 where
   pub listed : IsListed p
-  pub marks : AreMarks p.upper m
+  pub short : length p.upper < 2 ^ 63
+  pub upper : p.upper ≡ upper_of (items_of p)
 
 -- the upper part of item i
 abbrev pub high_at : Parts → ℕ → ℕ

@@ -1,5 +1,5 @@
 -- The Elias-Fano text of a list of numbers.
-use Rattle.std.specs.Prelude.{ℕ, zero, suc, ◌+◌, ◌-◌, ◌*◌, ◌/◌, ◌%◌, ◌^◌, ◌<◌, ◌==◌, nat_lt, nat_le, Bool, if◌then◌else◌, List, ◌++◌, length, map, slice_index}
+use Rattle.std.specs.Prelude.{◌≡◌, ℕ, zero, suc, ◌+◌, ◌-◌, ◌*◌, ◌/◌, ◌%◌, ◌^◌, ◌<◌, ◌==◌, nat_lt, nat_le, Bool, if◌then◌else◌, List, ◌++◌, length, map, slice_index}
 use Rattle.std.specs.List.{list_any, enumerate_from, range_with_len}
 use Rattle.std.specs.List.Sorted.{IsNonDecreasing}
 use Rattle.std.specs.Int.{w64, to_be_bytes}
@@ -41,9 +41,17 @@ upper_len l count last = last / 2 ^ l + count
 unfoldable pub upper_bits : ℕ → List ℕ → List Bool
 upper_bits l items = map (upper_bit l items) (range_with_len 0 (upper_len l (length items) (last_of items)))
 
+-- the upper part of the text of a list
+abbrev pub upper_of : List ℕ → List Bool
+upper_of items = upper_bits (low_width (length items) (last_of items)) items
+
 -- the text with a given number of low bits
 abbrev pub spelled : ℕ → List ℕ → List ℕ
 spelled l items = to_be_bytes w64 (length items) ++ (to_be_bytes w64 (last_of items) ++ (text_of (lower_bits l items) ++ text_of (upper_bits l items)))
 
 unfoldable pub spelling : List ℕ → List ℕ
 spelling items = spelled (low_width (length items) (last_of items)) items
+
+-- the text of some list
+abbrev pub IsSpelled : List ℕ → Type 0
+IsSpelled bytes = (items : List ℕ) × (IsListable items × (bytes ≡ spelling items))

@@ -14,6 +14,7 @@ mod writing;
 pub use error::EfError;
 pub use iter::{EfBack, EfIter};
 pub use list::EfList;
+pub use marks::Marks;
 pub use writing::encode;
 
 #[cfg(test)]

@@ -1,36 +1,60 @@
-ghost use Rattle.std.specs.Prelude.{◌≡◌, ℕ, ◌<◌, ◌≤◌, ◌*◌, ◌^◌, List, length, take, drop, reverse, slice_index, Some, None, IfOk, IfErr, IfSome, IfNone, IsOkAnd};
+ghost use Rattle.std.specs.Prelude.{◌≡◌, ℕ, ◌<◌, ◌≤◌, ◌*◌, ◌^◌, ◌==◌, List, length, take, drop, reverse, slice_index, if◌then◌else◌, Some, None, IfOk, IfErr, IfSome, IfNone, IsOkAnd};
+ghost use Rattle.std.specs.Option.{option_or, option_map};
 ghost use Rattle.std.specs.List.Sorted.{IsNonDecreasing};
-ghost use Rattle.elias_fano.specs.Spelling.{IsListable, spelling, upper_len};
+ghost use Rattle.elias_fano.specs.Spelling.{IsListable, IsSpelled, spelling, upper_len};
 ghost use Rattle.elias_fano.specs.Reading.{fault_in, item_fault, items_of, parts_in, IsFine};
+ghost use Rattle.elias_fano.specs.Marks.{AreMarksOf};
 
 use crate::error::EfError;
 use crate::finding::first_from;
 use crate::iter::{EfBack, EfIter};
-use crate::marks::Marks;
-use crate::opening::{header_of, parts_of, unused_in};
+use crate::marks::{Marks, one_of};
+use crate::opening::{header_of, known_header, parts_of, unused_in};
 use crate::parts::Parts;
 use std::marker::Model;
 
-/// A list of numbers that do not descend, read from its text.
+/// A list of numbers that do not descend, read from its text. It is a few words that point into the text.
 #[derive(Debug, Drop)]
 pub struct EfList<'a> {
     parts: Parts<'a>,
-    marks: Marks,
+    marks: Option<&'a Marks>,
 }
 
 impl<'a> Model for EfList<'a> {
-    ghost use Rattle.std.specs.Prelude.{List, ℕ};
+    ghost use Rattle.std.specs.Prelude.{List, ℕ, IfSome};
     ghost use Rattle.elias_fano.specs.Reading.{items_of};
-    ghost use Rattle.elias_fano.specs.Marks.{IsMarked};
+    ghost use Rattle.elias_fano.specs.Marks.{AreMarks, IsKnown};
 
     ghost Value = { List ℕ };
 
     ghost view = { λ it. items_of it.parts };
 
-    ghost invariant = { λ it. IsMarked it.parts it.marks };
+    ghost invariant = { λ it. IsKnown it.parts × IfSome it.marks (λ m. AreMarks it.parts.upper m.now) };
 }
 
-// What is wrong with the items and their ones.
+// The first fall: the one known so far, else item `i` where it is one.
+fn fall_at(known: Option<u64>, is_fall: bool, i: u64) -> Option<u64>
+    ensures { result ≡ option_or known (if is_fall then Some i else None) }
+{
+    match known {
+        Some(item) => Some(item),
+        None if is_fall => Some(i),
+        None => None,
+    }
+}
+
+// What is wrong with as many items as the header says: their first fall, or how they end.
+fn ending(fall: Option<u64>, found: u64, said: u64) -> Option<EfError>
+    ensures { result ≡ option_or (option_map (λ i. EfError.Descends i) fall) (if found == said then None else Some (EfError.Last said found)) }
+{
+    match fall {
+        Some(item) => Some(EfError::Descends { item }),
+        None if found == said => None,
+        None => Some(EfError::Last { said, found }),
+    }
+}
+
+// What is wrong with the items and their ones; goes over the items once.
 fn fault_of(parts: &Parts<'_>, last: u64) -> Option<EfError>
     requires lower { length parts.now.lower ≡ parts.now.count * parts.now.width }
     requires fits { parts.now.count * parts.now.width < 2 ^ 64 }
@@ -39,30 +63,34 @@ fn fault_of(parts: &Parts<'_>, last: u64) -> Option<EfError>
     requires upper { length parts.now.upper ≡ upper_len parts.now.width parts.now.count last }
     ensures { result ≡ item_fault last parts.now }
 {
-    let found = parts.upper.ones_before(parts.upper.len());
     let said = parts.count;
-    if found != said {
-        return Some(EfError::Count { said, found });
-    }
+    let len = parts.upper.len();
+    let most = last >> parts.width;
+    let mut fall = None;
     let mut before = 0;
     let mut at = 0;
     for i in 0..said {
-        let place = parts.upper.next_one(at).unwrap();
-        let item = parts.item(i, place);
-        if item < before {
-            return Some(EfError::Descends { item: i });
+        let Some(place) = parts.upper.next_one(at) else {
+            return Some(EfError::Count { said, found: i });
+        };
+        // So far behind, too few ones can follow.
+        if place - i > most {
+            let found = i + parts.upper.ones_between(at, len);
+            return Some(EfError::Count { said, found });
         }
+        let item = ((place - i) << parts.width) + parts.low(i);
+        fall = fall_at(fall, item < before, i);
         before = item;
         at = place + 1;
     }
-    if before == last {
-        None
-    } else {
-        Some(EfError::Last {
-            said: last,
-            found: before,
-        })
+    let more = parts.upper.ones_between(at, len);
+    if more > 0 {
+        return Some(EfError::Count {
+            said,
+            found: said + more,
+        });
     }
+    ending(fall, before, last)
 }
 
 // The list of a text, or what is wrong with the bytes first.
@@ -79,10 +107,7 @@ fn checked(bytes: &[u8]) -> Result<EfList<'_>, EfError>
     let parts = parts_of(bytes, &header);
     match fault_of(&parts, header.last) {
         Some(fault) => Err(fault),
-        None => {
-            let marks = Marks::of(&parts.upper);
-            Ok(EfList { parts, marks })
-        }
+        None => Ok(EfList { parts, marks: None }),
     }
 }
 
@@ -100,6 +125,38 @@ impl<'a> EfList<'a> {
         checked(bytes)
     }
 
+    /// The list of a text that is known to be one, without a copy. Its header alone is read.
+    pub fn of(bytes: &'a [u8]) -> EfList<'a>
+        requires small { length bytes.now < 2 ^ 60 }
+        requires known { IsSpelled bytes.now }
+        ensures found { IsListable result × (bytes.now ≡ spelling result) }
+        ensures only { (items : List ℕ) → IsListable items → bytes.now ≡ spelling items → result ≡ items }
+    {
+        let header = known_header(bytes);
+        EfList {
+            parts: parts_of(bytes, &header),
+            marks: None,
+        }
+    }
+
+    /// Marks for the looks at a long list; every word of its upper part is read once.
+    pub fn marks(&self) -> Marks
+        ensures { AreMarksOf self.now result }
+    {
+        Marks::of(&self.parts.upper)
+    }
+
+    /// The same list, whose looks go by its marks.
+    pub fn with(&self, marks: &'a Marks) -> EfList<'a>
+        requires { AreMarksOf self.now marks.now }
+        ensures { result ≡ self.now }
+    {
+        EfList {
+            parts: self.parts.again(),
+            marks: Some(marks),
+        }
+    }
+
     /// The number of items.
     pub fn len(&self) -> u64
         ensures count { result ≡ length self.now }
@@ -108,23 +165,24 @@ impl<'a> EfList<'a> {
         self.parts.count
     }
 
-    /// Goes through at most n / 10,000 + 2 words of a list of n items, all else by halving.
+    /// Counts the ones of the upper part word by word, from its start or, of a list with marks, from one
+    /// of them; README.md says how many words these are.
     pub fn get(&self, i: u64) -> u64
         requires { i < length self.now }
         ensures { result ≡ slice_index self.now i }
     {
-        let one = self.marks.one(&self.parts.upper, i);
+        let one = one_of(&self.parts.upper, self.marks, i);
         self.parts.item(i, one)
     }
 
     /// The place and the value of the first item not below `at`. Goes through at most three times the
-    /// words of a `get` and ten more, all else by halving.
+    /// words of a `get` and twenty more, all else by halving.
     pub fn seek(&self, at: u64) -> Option<(u64, u64)>
         ensures found { IfSome result (λ x. (x.0 < length self.now) × (x.1 ≡ slice_index self.now x.0) × (at ≤ x.1)) }
         ensures first { IfSome result (λ x. (k : ℕ) → k < x.0 → slice_index self.now k < at) }
         ensures none { IfNone result ((k : ℕ) → k < length self.now → slice_index self.now k < at) }
     {
-        let (place, one) = first_from(&self.parts, &self.marks, at)?;
+        let (place, one) = first_from(&self.parts, self.marks, at)?;
         Some((place, self.parts.item(place, one)))
     }
 
@@ -134,7 +192,7 @@ impl<'a> EfList<'a> {
     {
         let parts = &self.parts;
         if place < parts.count {
-            let bit = self.marks.one(&parts.upper, place);
+            let bit = one_of(&parts.upper, self.marks, place);
             EfIter::new(parts.again(), place, bit)
         } else {
             EfIter::new(parts.again(), parts.count, parts.upper.len())
@@ -147,7 +205,7 @@ impl<'a> EfList<'a> {
     {
         let parts = &self.parts;
         if place < parts.count {
-            let bit = self.marks.one(&parts.upper, place);
+            let bit = one_of(&parts.upper, self.marks, place);
             EfBack::new(parts.again(), place, bit)
         } else {
             EfBack::new(parts.again(), parts.count, parts.upper.len())

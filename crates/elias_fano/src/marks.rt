@@ -8,21 +8,21 @@ use bit_store::BitView;
 // More marks make each search shorter, and each list larger.
 const MOST: usize = 512;
 
-/// How many ones of an upper part stand before bits that are evenly spaced, so that a search looks at
-/// few of its words.
+/// How many ones of a list's upper part stand before bits that are evenly spaced, so that a look at the
+/// list goes through few of its words. They take 4 KB.
 #[derive(Debug, Drop)]
 pub struct Marks {
-    /// Bits from one mark to the next.
-    pub block: u64,
-    /// How many marks there are.
-    pub used: usize,
-    /// The ones before bit `j * block`, for each of them.
-    pub ones: [u64; MOST],
+    // Bits from one mark to the next.
+    block: u64,
+    // How many marks there are.
+    used: usize,
+    // The ones before bit `j * block`, for each of them.
+    ones: [u64; MOST],
 }
 
 impl Marks {
     /// The marks of an upper part; every word of it is looked at once.
-    pub fn of(upper: &BitView<'_>) -> Marks
+    pub(crate) fn of(upper: &BitView<'_>) -> Marks
         requires { length upper.now < 2 ^ 63 }
         ensures { AreMarks upper.now result }
     {
@@ -87,7 +87,7 @@ impl Marks {
     }
 
     /// The place of the k-th 1, with a look at fewer than `block` bits behind a mark.
-    pub fn one(&self, upper: &BitView<'_>, k: u64) -> u64
+    fn one(&self, upper: &BitView<'_>, k: u64) -> u64
         requires marks { AreMarks upper.now self.now }
         requires within { k < ones_of upper.now }
         ensures { result ≡ place_of_one upper.now k }
@@ -98,7 +98,7 @@ impl Marks {
     }
 
     /// The place of the k-th 0, with a look at fewer than `block` bits behind a mark.
-    pub fn zero(&self, upper: &BitView<'_>, k: u64) -> Option<u64>
+    fn zero(&self, upper: &BitView<'_>, k: u64) -> Option<u64>
         requires { AreMarks upper.now self.now }
         ensures found { IfSome result (λ p. IsZeroAt upper.now p × (p ≡ ones_of (take p upper.now) + k)) }
         ensures none { IfNone result (length upper.now ≤ ones_of upper.now + k) }
@@ -106,5 +106,29 @@ impl Marks {
         let mark = self.before_zero(k);
         let from = mark as u64 * self.block;
         upper.select_zero_from(from, k - (from - self.ones[mark]))
+    }
+}
+
+/// The place of the k-th 1 of an upper part, found from its marks where it has some.
+pub fn one_of(upper: &BitView<'_>, marks: Option<&Marks>, k: u64) -> u64
+    requires marks { IfSome marks (λ m. AreMarks upper.now m.now) }
+    requires within { k < ones_of upper.now }
+    ensures { result ≡ place_of_one upper.now k }
+{
+    match marks {
+        Some(marks) => marks.one(upper, k),
+        None => upper.select_one(k).unwrap(),
+    }
+}
+
+/// The place of the k-th 0 of an upper part, found from its marks where it has some.
+pub fn zero_of(upper: &BitView<'_>, marks: Option<&Marks>, k: u64) -> Option<u64>
+    requires { IfSome marks (λ m. AreMarks upper.now m.now) }
+    ensures found { IfSome result (λ p. IsZeroAt upper.now p × (p ≡ ones_of (take p upper.now) + k)) }
+    ensures none { IfNone result (length upper.now ≤ ones_of upper.now + k) }
+{
+    match marks {
+        Some(marks) => marks.zero(upper, k),
+        None => upper.select_zero_from(0, k),
     }
 }

@@ -1,41 +1,26 @@
-ghost use Rattle.std.specs.Prelude.{◌≡◌, ℕ, ◌<◌, ◌≤◌, ◌+◌, ◌*◌, ◌^◌, length, take, drop, Some, IfOk, IfErr};
-ghost use Rattle.std.specs.Int.{w64, from_be_bytes};
+ghost use Rattle.std.specs.Prelude.{◌≡◌, ◌<◌, ◌≤◌, ◌*◌, ◌/◌, ◌^◌, length, Some, IfOk, IfErr};
 ghost use Rattle.bit_store.specs.Bits.{bits_of, bytes_for};
 ghost use Rattle.elias_fano.specs.Spelling.{low_width};
-ghost use Rattle.elias_fano.specs.Reading.{IsHeader, fault_in, first_one, unused_one, parts_in};
+ghost use Rattle.elias_fano.specs.Reading.{IsHeader, count_in, asked_in, fault_in, first_one, unused_one, parts_in};
 
 use crate::error::EfError;
 use crate::header::Header;
 use crate::parts::Parts;
 use bit_store::BitView;
+use file_numbers::u64_at;
 
 /// How many low bits of each item stand apart.
 pub fn width_for(count: u64, last: u64) -> u32
     requires { 0 < count }
     ensures value { result ≡ low_width count last }
     ensures narrow { result < 64 }
+    ensures short { last / 2 ^ result ≤ 2 * count }
 {
     if last <= count {
         0
     } else {
         (last / count).ilog2()
     }
-}
-
-fn u64_at(bytes: &[u8], at: usize) -> u64
-    requires { at + 8 ≤ length bytes.now }
-    ensures { result ≡ from_be_bytes w64 (take 8 (drop at bytes.now)) }
-{
-    u64::from_be_bytes([
-        bytes[at],
-        bytes[at + 1],
-        bytes[at + 2],
-        bytes[at + 3],
-        bytes[at + 4],
-        bytes[at + 5],
-        bytes[at + 6],
-        bytes[at + 7],
-    ])
 }
 
 fn bytes_of(bits: u128) -> u128
@@ -80,6 +65,27 @@ pub fn header_of(bytes: &[u8]) -> Result<Header, EfError>
         upper_len: upper_len as u64,
         start: start as u64,
     })
+}
+
+/// The header of bytes that are known to be the text of a list.
+pub fn known_header(bytes: &[u8]) -> Header
+    requires small { length bytes.now < 2 ^ 60 }
+    requires some { 0 < count_in bytes.now }
+    requires size { length bytes.now ≡ asked_in bytes.now }
+    ensures { IsHeader bytes.now result }
+{
+    let count = u64_at(bytes, 0);
+    let last = u64_at(bytes, 8);
+    let width = width_for(count, last);
+    let lower_len = count * u64::from(width);
+    Header {
+        count,
+        last,
+        width,
+        lower_len,
+        upper_len: (last >> width) + count,
+        start: 16 + (lower_len + 7) / 8,
+    }
 }
 
 // The first 1 from one bit up to another.

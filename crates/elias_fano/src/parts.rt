@@ -10,8 +10,21 @@ pub struct Parts<'a> {
 }
 
 impl<'a> Parts<'a> {
-    ghost use Rattle.std.specs.Prelude.{◌≡◌, ◌<◌};
+    ghost use Rattle.std.specs.Prelude.{◌≡◌, ◌<◌, ◌*◌, ◌^◌, length, take, drop};
+    ghost use Rattle.bit_store.specs.Bits.{number_of};
     ghost use Rattle.elias_fano.specs.Reading.{IsSound, item_at, place_of_one};
+
+    /// The low bits of item `i`.
+    pub fn low(&self, i: u64) -> u64
+        requires lower { length self.now.lower ≡ self.now.count * self.now.width }
+        requires fits { self.now.count * self.now.width < 2 ^ 64 }
+        requires narrow { self.now.width < 64 }
+        requires within { i < self.now.count }
+        ensures value { result ≡ number_of (take self.now.width (drop (i * self.now.width) self.now.lower)) }
+        ensures small { result < 2 ^ self.now.width }
+    {
+        self.lower.field(i * u64::from(self.width), self.width)
+    }
 
     /// Item `i`, whose 1 stands at `place`.
     pub fn item(&self, i: u64, place: u64) -> u64
@@ -20,8 +33,7 @@ impl<'a> Parts<'a> {
         requires place { place ≡ place_of_one self.now.upper i }
         ensures { result ≡ item_at self.now i }
     {
-        let low = self.lower.field(i * u64::from(self.width), self.width);
-        ((place - i) << self.width) + low
+        ((place - i) << self.width) + self.low(i)
     }
 
     /// The same parts once more.

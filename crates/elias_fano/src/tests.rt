@@ -1,10 +1,23 @@
+ghost use Rattle.std.specs.Prelude.{◌<◌, ◌^◌, length, IfOk};
 ghost use Rattle.std.specs.Bool.{OnTrue};
 ghost use Rattle.std.specs.List.Sorted.{IsNonDecreasing};
+ghost use Rattle.elias_fano.specs.Spelling.{IsSpelled};
 
 use super::*;
+use agg_outside::{Bytes, Memory};
 use std::alloc::Global;
 use std::process::Abort;
 use std::test::*;
+
+fn shared<T: Send + Sync>(_value: &T) {}
+
+// Threads may share each of them.
+fn all_shared(list: &EfList<'_>, marks: &Marks, iter: &EfIter<'_>, back: &EfBack<'_>) {
+    shared(list);
+    shared(marks);
+    shared(iter);
+    shared(back);
+}
 
 const ONE_ZERO: [u8; 17] = [0, 0, 0, 0, 0, 0, 0, 1, 0, 0, 0, 0, 0, 0, 0, 0, 1];
 
@@ -29,57 +42,95 @@ fn ascends(items: &[u64]) -> bool
     true
 }
 
-// The text is that of the items, both ways, and each shorter part of it is refused at its end.
-fn both_ways(rt: &impl Abort, alloc: Global, items: &[u64], text: &[u8]) -> Result<(), Fail> {
-    assert!(rt; !items.is_empty() && items.len() < 1000 && text.len() < 1000);
-    assert!(rt; ascends(items));
-    let spelled = encode(alloc, items).ok().ok_or("memory")?;
-    assert_eq!(rt; spelled.as_slice(), text);
-    let list = EfList::check(text).ok().ok_or("no list")?;
+// The text of the numbers.
+fn spelled(rt: &impl Abort, alloc: Global, items: &[u64]) -> Result<Bytes, Memory>
+    ensures { IfOk result (λ text. IsSpelled text × (length text < 2 ^ 60)) }
+{
+    assert!(rt; !items.is_empty() && items.len() < 1000 && ascends(items));
+    let text = encode(alloc, items)?;
+    assert!(rt; text.as_slice().len() < 1000);
+    Ok(text)
+}
+
+// The text is that of the items, both ways.
+fn both_ways(rt: &impl Abort, alloc: Global, items: &[u64], text: &[u8]) -> Result<(), Memory> {
+    let spelling = spelled(rt, alloc, items)?;
+    assert_eq!(rt; spelling.as_slice(), text);
+    let list = EfList::of(spelling.as_slice());
     assert_eq!(rt; list.len(), items.len() as u64);
     let mut at = 0usize;
     for item in list.iter_from(0) {
         assert_eq!(rt; items.get(at).copied(), Some(item));
         at = at.saturating_add(1);
     }
-    for end in 0..text.len() {
-        let refused = EfList::check(&text[..end]).err();
-        assert_eq!(rt; refused, Some(EfError::Short { at: end as u64 }));
-    }
     Ok(())
 }
 
 #[test]
 fn lists_are_spelled_and_read(rt: HostRuntime) -> Result<(), Fail> {
-    both_ways(&rt, rt.alloc(), &[0], &ONE_ZERO)?;
-    both_ways(&rt, rt.alloc(), &[1 << 62], &LARGE)?;
-    both_ways(&rt, rt.alloc(), &[5, 9], &FIVE_AND_NINE)?;
-    both_ways(&rt, rt.alloc(), &[7, 7], &SEVEN_TWICE)?;
+    both_ways(&rt, rt.alloc(), &[0], &ONE_ZERO)
+        .ok()
+        .ok_or("memory")?;
+    both_ways(&rt, rt.alloc(), &[1 << 62], &LARGE)
+        .ok()
+        .ok_or("memory")?;
+    both_ways(&rt, rt.alloc(), &[5, 9], &FIVE_AND_NINE)
+        .ok()
+        .ok_or("memory")?;
+    both_ways(&rt, rt.alloc(), &[7, 7], &SEVEN_TWICE)
+        .ok()
+        .ok_or("memory")?;
+    Ok(())
+}
+
+// 256 numbers without a gap: the upper part is 64 bytes 55, and no low bits.
+#[test]
+fn a_dense_list_is_found_in_with_marks_and_without(rt: HostRuntime) -> Result<(), Fail> {
     let mut items = Vec::new(rt.alloc());
     for item in 0..256u64 {
         items.push(item)?;
     }
-    let mut text = [0, 0, 0, 0, 0, 0, 1, 0, 0, 0, 0, 0, 0, 0, 0, 0xff].to_vec(rt.alloc())?;
-    for _ in 0..64 {
-        text.push(0x55)?;
-    }
-    both_ways(&rt, rt.alloc(), items.as_slice(), text.as_slice())
+    let text = spelled(&rt, rt.alloc(), items.as_slice())
+        .ok()
+        .ok_or("memory")?;
+    assert_eq!(rt; text.as_slice().get(79).copied(), Some(0x55));
+    let list = EfList::of(text.as_slice());
+    let marks = list.marks();
+    assert_eq!(rt; list.with(&marks).seek(200), Some((200, 200)));
+    assert_eq!(rt; list.seek(200), Some((200, 200)));
+    assert_eq!(rt; list.seek(256), None);
+    Ok(())
 }
 
 #[test]
-fn bytes_behind_the_end_are_refused(rt: HostRuntime) {
+fn bytes_that_are_no_text_are_refused(rt: HostRuntime) {
+    for end in 0..ONE_ZERO.len() {
+        let refused = EfList::check(&ONE_ZERO[..end]).err();
+        assert_eq!(rt; refused, Some(EfError::Short { at: end as u64 }));
+    }
     let longer = [0, 0, 0, 0, 0, 0, 0, 1, 0, 0, 0, 0, 0, 0, 0, 0, 1, 0];
     assert_eq!(rt;
         EfList::check(&longer).err(),
         Some(EfError::Extra { at: 17 })
     );
+    assert_eq!(rt; EfList::check(&[0; 16]).err(), Some(EfError::Zero));
+}
+
+const FEW_ONES: [u8; 18] = [0, 0, 0, 0, 0, 0, 0, 2, 0, 0, 0, 0, 0, 0, 0, 9, 0x05, 0x08];
+
+const MANY_ONES: [u8; 18] = [0, 0, 0, 0, 0, 0, 0, 2, 0, 0, 0, 0, 0, 0, 0, 9, 0x05, 0x0b];
+
+#[test]
+fn wrong_items_are_refused(rt: HostRuntime) {
     let unused = [0, 0, 0, 0, 0, 0, 0, 1, 0, 0, 0, 0, 0, 0, 0, 0, 3];
     assert_eq!(rt;
         EfList::check(&unused).err(),
         Some(EfError::Unused { bit: 129 })
     );
-    let none = [0; 16];
-    assert_eq!(rt; EfList::check(&none).err(), Some(EfError::Zero));
+    let few = EfList::check(&FEW_ONES).err();
+    assert_eq!(rt; few, Some(EfError::Count { said: 2, found: 1 }));
+    let many = EfList::check(&MANY_ONES).err();
+    assert_eq!(rt; many, Some(EfError::Count { said: 2, found: 3 }));
 }
 
 #[test]
@@ -87,18 +138,12 @@ fn items_are_found(rt: HostRuntime) -> Result<(), Fail> {
     let list = EfList::check(&FIVE_AND_NINE).ok().ok_or("no list")?;
     assert_eq!(rt; list.len(), 2);
     assert_eq!(rt; list.get(1), 9);
-    for (at, found) in [
-        (0, Some((0, 5))),
-        (5, Some((0, 5))),
-        (6, Some((1, 9))),
-        (10, None),
-    ] {
+    for (at, found) in [(5, Some((0, 5))), (6, Some((1, 9))), (10, None)] {
         assert_eq!(rt; list.seek(at), found);
     }
     assert_eq!(rt; list.iter_from(1).next(), Some(9));
     let mut back = list.iter_back(7);
     assert_eq!(rt; back.next(), Some(9));
     assert_eq!(rt; back.next(), Some(5));
-    assert_eq!(rt; back.next(), None);
     Ok(())
 }

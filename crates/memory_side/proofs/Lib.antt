@@ -1,2 +1,5 @@
 pub mod RowPlaces
 pub mod RowSlots
+pub mod CallLists
+pub mod RowAdds
+pub mod TestFiles

@@ -1,12 +1,10 @@
--- The rows of a tree of slots: a slot with no body has no row.
-use Rattle.std.specs.Prelude.{Bool, true, false, if◌then◌else◌, List, [], ◌∷◌, Option, Some, None, is_some}
-use Rattle.std.specs.Map.{lookup}
-use Rattle.std.specs.BTreeMap.{is_at}
+-- The rows of a tree: each id has what its row has besides it.
+use Rattle.std.specs.Prelude.{Bool, true, false, if◌then◌else◌, List, [], ◌∷◌}
 use Rattle.agg_outside.specs.declared.rows.RowId.{RowId}
 use Rattle.agg_outside.specs.declared.rows.Row.{Row}
 use Rattle.agg_outside.specs.declared.rows.RowWrite.{RowWrite}
 use Rattle.agg_outside.specs.declared.rows.RowWrite.TheVariants.{Insert, Kill, Remove, Floor}
-use Rattle.agg_outside.specs.Rows.{id_cmp, is_before}
+use Rattle.agg_outside.specs.Rows.{is_before}
 use Rattle.memory_side.specs.declared.row_body.RowBody.{RowBody}
 
 -- the row with this id and body
@@ -17,31 +15,29 @@ row_with id body = record { id = id; killed = body.killed; act = body.act; value
 abbrev pub body_of : Row → RowBody
 body_of row = record { killed = row.killed; act = row.act; value = row.value }
 
--- the row of a slot, if it has one, and the others
-abbrev pub slot_rows : RowId → Option RowBody → List Row → List Row
-slot_rows id None rows = rows
-slot_rows id (Some body) rows = row_with id body ∷ rows
-
-abbrev pub rows_of : List (RowId × Option RowBody) → List Row
+abbrev pub rows_of : List (RowId × RowBody) → List Row
 rows_of [] = []
-rows_of (slot ∷ slots) = slot_rows slot.0 slot.1 (rows_of slots)
+rows_of (slot ∷ slots) = row_with slot.0 slot.1 ∷ rows_of slots
 
--- a row that is to be inserted has a slot
-abbrev pub has_slot : RowWrite → List (RowId × Option RowBody) → Bool
-has_slot (Insert row) slots = is_some (lookup (is_at (id_cmp row.id)) slots)
-has_slot (Kill id epoch) slots = true
-has_slot (Remove id) slots = true
-has_slot (Floor step) slots = true
+-- whether a write adds a row or sets the floor
+abbrev pub adds : RowWrite → Bool
+adds (Insert row) = true
+adds (Kill id epoch) = false
+adds (Remove id) = false
+adds (Floor step) = true
 
-abbrev pub have_slots : List RowWrite → List (RowId × Option RowBody) → Bool
-have_slots [] slots = true
-have_slots (write ∷ writes) slots = if has_slot write slots then have_slots writes slots else false
+-- whether a write adds no row
+abbrev pub spares : RowWrite → Bool
+spares (Insert row) = false
+spares (Kill id epoch) = true
+spares (Remove id) = true
+spares (Floor step) = true
 
 -- whether the keys of slots ascend strictly
-abbrev pub after_all : RowId → List (RowId × Option RowBody) → Bool
+abbrev pub after_all : RowId → List (RowId × RowBody) → Bool
 after_all id [] = true
 after_all id (slot ∷ slots) = if is_before id slot.0 then after_all id slots else false
 
-abbrev pub slots_ascend : List (RowId × Option RowBody) → Bool
+abbrev pub slots_ascend : List (RowId × RowBody) → Bool
 slots_ascend [] = true
 slots_ascend (slot ∷ slots) = if after_all slot.0 slots then slots_ascend slots else false

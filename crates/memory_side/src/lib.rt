@@ -19,6 +19,7 @@ mod sure_sink;
 mod sure_source;
 #[cfg(test)]
 mod tests;
+mod tree_adds;
 mod tree_writes;
 
 pub use mem_disk::MemDisk;

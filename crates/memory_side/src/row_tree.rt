@@ -1,8 +1,7 @@
-//! Rows in a tree of slots. A slot without a body has no row: it is room that a batch asked for before
-//! its writes are made, or what a removal left until the batch ends.
-ghost use Rattle.std.specs.Prelude.{◌≡◌, Some, IsTrue, IfOk, OnOk, take};
+//! Rows in a tree, each at its id.
+ghost use Rattle.std.specs.Prelude.{◌≡◌, Some, IsTrue, IfOk, OnOk, OnErr, take};
 ghost use Rattle.agg_outside.specs.Rows.{id_cmp, ascends, first_from, last_before, rows_from};
-ghost use Rattle.memory_side.specs.RowTree.{rows_of, body_of};
+ghost use Rattle.memory_side.specs.RowTree.{rows_of, body_of, slots_ascend};
 ghost use Rattle.std.specs.BTreeMap.{insert_entry};
 
 use crate::row_body::RowBody;
@@ -10,7 +9,7 @@ use agg_outside::{Memory, Row, RowId, Rowlist};
 use std::alloc::Global;
 use std::collections::BTreeMap;
 
-pub type RowTree = BTreeMap<RowId, Option<RowBody>>;
+pub type RowTree = BTreeMap<RowId, RowBody>;
 
 /// A tree with copies of these rows.
 pub fn tree_of(alloc: Global, rows: &[Row]) -> Result<RowTree, Memory>
@@ -24,8 +23,19 @@ pub fn tree_of(alloc: Global, rows: &[Row]) -> Result<RowTree, Memory>
     Ok(tree)
 }
 
-fn put_row(alloc: Global, tree: &mut RowTree, row: &Row) -> Result<(), Memory>
-    ensures { OnOk result (tree.new.entries ≡ insert_entry id_cmp tree.old.entries row.now.id (Some (body_of row.now))) }
+/// What a tree's type says of its keys, for a caller that changes it next.
+pub fn slots_in_order(rows: &RowTree)
+    ensures slots { IsTrue (slots_ascend rows.now.entries) }
+    ensures rows { IsTrue (ascends (rows_of rows.now.entries)) }
+{
+    let _keys = rows.keys();
+}
+
+/// Puts a copy of the row at its id.
+pub fn put_row(alloc: Global, tree: &mut RowTree, row: &Row) -> Result<(), Memory>
+    ensures put { OnOk result (tree.new.entries ≡ insert_entry id_cmp tree.old.entries row.now.id (body_of row.now)) }
+    ensures err { OnErr result (tree.new.entries ≡ tree.old.entries) }
+    ensures ascend { OnOk result (IsTrue (slots_ascend tree.old.entries)) }
 {
     let id = row.id.copy(alloc)?;
     let value = row.value.copy(alloc)?;
@@ -34,22 +44,32 @@ fn put_row(alloc: Global, tree: &mut RowTree, row: &Row) -> Result<(), Memory>
         act: row.act,
         value,
     };
-    match tree.insert(id, Some(body)) {
+    match tree.insert(id, body) {
         Ok(_) => Ok(()),
         Err(_) => Err(Memory),
     }
+}
+
+/// All rows in order, copied.
+pub fn all_rows(alloc: Global, rows: &RowTree) -> Result<Rowlist, Memory>
+    ensures { IfOk result (λ copies. copies ≡ rows_of rows.now.entries) }
+{
+    let mut copies = Rowlist::new(alloc);
+    for (key, body) in rows.iter() {
+        copies.push(body.row(alloc, key)?)?;
+    }
+    Ok(copies)
 }
 
 /// The first row not before the id.
 pub fn first_row_from(alloc: Global, rows: &RowTree, id: &RowId) -> Result<Option<Row>, Memory>
     ensures { IfOk result (λ row. row ≡ first_from id.now (rows_of rows.now.entries)) }
 {
-    for (key, slot) in rows.range(id..) {
-        if let Some(body) = slot {
-            return Ok(Some(body.row(alloc, key)?));
-        }
+    let mut from = rows.range(id..);
+    match from.next() {
+        Some((key, body)) => Ok(Some(body.row(alloc, key)?)),
+        None => Ok(None),
     }
-    Ok(None)
 }
 
 /// The last row before the id.
@@ -57,12 +77,10 @@ pub fn last_row_before(alloc: Global, rows: &RowTree, id: &RowId) -> Result<Opti
     ensures { IfOk result (λ row. row ≡ last_before id.now (rows_of rows.now.entries)) }
 {
     let mut before = rows.range(..id);
-    while let Some((key, slot)) = before.next_back() {
-        if let Some(body) = slot {
-            return Ok(Some(body.row(alloc, key)?));
-        }
+    match before.next_back() {
+        Some((key, body)) => Ok(Some(body.row(alloc, key)?)),
+        None => Ok(None),
     }
-    Ok(None)
 }
 
 /// The first `limit` rows not before the id.
@@ -75,13 +93,11 @@ pub fn some_rows_from(
     ensures { IfOk result (λ copies. copies ≡ take limit (rows_from id.now (rows_of rows.now.entries))) }
 {
     let mut copies = Rowlist::new(alloc);
-    for (key, slot) in rows.range(id..) {
+    for (key, body) in rows.range(id..) {
         if copies.len() >= limit {
             return Ok(copies);
         }
-        if let Some(body) = slot {
-            copies.push(body.row(alloc, key)?)?;
-        }
+        copies.push(body.row(alloc, key)?)?;
     }
     Ok(copies)
 }

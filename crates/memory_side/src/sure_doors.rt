@@ -1,5 +1,5 @@
 //! Doors in memory.
-ghost use Rattle.std.specs.Prelude.{◌≡◌, [], IfOk, Some, None, map, slice_get};
+ghost use Rattle.std.specs.Prelude.{◌≡◌, ◌↔◌, ◌≤◌, [], IfOk, IsNone, Some, None, map, length, slice_get};
 ghost use Rattle.std.specs.Option.{option_copied};
 ghost use Rattle.memory_side.specs.Memory.{Supply, DoorsTold, written_by};
 ghost use Rattle.agg_outside.specs.Links.{Closed};
@@ -59,9 +59,11 @@ impl SureDoors {
         })
     }
 
-    /// What the link at that place among those taken back, from 0, had written.
+    /// What the link at that place among those taken back, from 0, had written; `None` exactly where
+    /// there is no such link.
     pub fn output(&self, link: usize) -> Option<&[u8]>
-        ensures { option_copied result ≡ written_by (slice_get self.now.back link) }
+        ensures value { option_copied result ≡ written_by (slice_get self.now.back link) }
+        ensures none { IsNone result ↔ length self.now.back ≤ link }
     {
         match self.back.get(link) {
             Some(done) => Some(done.written()),

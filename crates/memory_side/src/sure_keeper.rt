@@ -3,7 +3,9 @@ ghost use Rattle.std.specs.Prelude.{◌≡◌, IfOk, IsTrue};
 ghost use Rattle.agg_outside.specs.Rows.{ascends};
 ghost use Rattle.memory_side.specs.RowTree.{rows_of};
 
-use crate::row_tree::{RowTree, first_row_from, last_row_before, some_rows_from, tree_of};
+use crate::row_tree::{
+    RowTree, all_rows, first_row_from, last_row_before, some_rows_from, tree_of,
+};
 use crate::tree_writes::apply_all;
 use agg_outside::{Keeper, KeeperError, KeeperStart, Memory, Row, RowId, RowWrite, Rowlist};
 use std::alloc::Global;
@@ -29,6 +31,13 @@ impl SureKeeper {
             rows,
             floor: start.floor,
         })
+    }
+
+    /// A copy of the rows in order: they stand in a tree, which can't lend a list.
+    pub fn rows(&self, alloc: Global) -> Result<Rowlist, Memory>
+        ensures { IfOk result (λ rows. rows ≡ (sure_held self.now).rows) }
+    {
+        all_rows(alloc, &self.rows)
     }
 }
 

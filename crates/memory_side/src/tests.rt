@@ -1,4 +1,5 @@
 ghost use Rattle.std.specs.Prelude.{◌≡◌, [], IfOk, IsTrue};
+ghost use Rattle.std.specs.Option.{ForSome};
 ghost use Rattle.agg_outside.specs.Rows.{ascends, CanApply};
 
 use crate::*;
@@ -61,46 +62,64 @@ fn a_sink_takes_all_but_what_its_failing_call_was_given(rt: HostRuntime) -> Resu
     Ok(())
 }
 
-#[test]
-fn a_disk_lists_in_order_and_renames_over_a_file(rt: HostRuntime) -> Result<(), Fail> {
-    let alloc = rt.alloc();
-    let start = FileMap::new(alloc);
-    let mut disk = SureDisk::new(alloc, &start)?;
-    assert!(rt; disk.write_new(alloc, b"b", b"2").is_ok());
-    assert!(rt; disk.write_new(alloc, b"a", b"1").is_ok());
-    assert!(rt; disk.write_new(alloc, b"c", b"3").is_ok());
-    let names = disk.list(alloc).map_or(Names::new(alloc), |names| names);
-    assert_eq!(rt; names.len(), 3);
+// Writes a file and reads it.
+fn reads_back<D: Disk>(
+    alloc: Global,
+    disk: &mut D,
+    name: &[u8],
+    bytes: &[u8],
+) -> Result<Bytes, DiskError> {
+    disk.write_new(alloc, name, bytes)?;
+    disk.read(alloc, name)
+}
+
+// Writes a file and moves it.
+fn moves<D: Disk>(
+    alloc: Global,
+    disk: &mut D,
+    from: &[u8],
+    to: &[u8],
+    bytes: &[u8],
+) -> Result<(), DiskError> {
+    disk.write_new(alloc, from, bytes)?;
+    disk.rename(alloc, from, to)
+}
+
+// Eight calls, after which a disk that was empty has one file.
+fn holds_files<D: Disk>(rt: &impl Abort, alloc: Global, disk: &mut D) -> Result<(), DiskError> {
+    let bytes = reads_back(alloc, disk, b"b", b"2")?;
+    assert!(rt; bytes.as_slice() == b"2".as_slice());
+    disk.write_new(alloc, b"a", b"1")?;
+    let names = disk.list(alloc)?;
+    assert_eq!(rt; names.len(), 2);
     assert!(rt;
         names
             .get(0)
             .is_some_and(|name| name.as_slice() == b"a".as_slice())
     );
-    assert!(rt; disk.files().find(b"c").is_some());
-    assert!(rt; disk.rename(alloc, b"c", b"b").is_ok());
-    assert!(rt; disk.remove(alloc, b"a").is_ok());
-    assert_eq!(rt; disk.files().len(), 1);
-    assert!(rt;
-        disk.files()
-            .find(b"b")
-            .is_some_and(|bytes| bytes.as_slice() == b"3".as_slice())
-    );
+    moves(alloc, disk, b"c", b"b", b"3")?;
+    disk.remove(alloc, b"a")?;
+    assert_eq!(rt; disk.list(alloc)?.len(), 1);
     Ok(())
 }
 
+// The one file is the one that was moved.
+fn has_the_moved_file(files: &FileMap) -> bool {
+    let is_moved = |bytes: &Bytes| bytes.as_slice() == b"3".as_slice();
+    files.len() == 1 && files.find(b"b").is_some_and(is_moved)
+}
+
 #[test]
-fn a_disk_that_fails_to_read_reads_the_file_later(rt: HostRuntime) -> Result<(), Fail> {
+fn disks_list_in_order_read_and_rename_over_a_file(rt: HostRuntime) -> Result<(), Fail> {
     let alloc = rt.alloc();
     let start = FileMap::new(alloc);
-    let mut disk = MemDisk::new(alloc, &start, &[2])?;
-    assert!(rt; disk.write_new(alloc, b"a", b"1").is_ok());
-    assert!(rt; disk.files().find(b"a").is_some());
-    assert!(rt; disk.read(alloc, b"a").is_err());
-    assert!(rt; disk.files().find(b"a").is_some());
-    assert!(rt;
-        disk.read(alloc, b"a")
-            .is_ok_and(|bytes| bytes.as_slice() == b"1".as_slice())
-    );
+    let mut disk = MemDisk::new(alloc, &start, &[9])?;
+    holds_files(&rt, alloc, &mut disk)?;
+    assert!(rt; has_the_moved_file(disk.files()));
+    assert!(rt; disk.list(alloc).is_err());
+    let mut sure = SureDisk::new(alloc, &start)?;
+    holds_files(&rt, alloc, &mut sure)?;
+    assert!(rt; has_the_moved_file(sure.files()));
     Ok(())
 }
 
@@ -108,7 +127,7 @@ fn a_disk_that_fails_to_read_reads_the_file_later(rt: HostRuntime) -> Result<(),
 fn a_call_of_a_disk_that_fails_changes_nothing(rt: HostRuntime) -> Result<(), Fail> {
     let alloc = rt.alloc();
     let start = FileMap::new(alloc);
-    let mut disk = MemDisk::new(alloc, &start, &[2, 4, 6, 8])?;
+    let mut disk = MemDisk::new(alloc, &start, &[8, 2, 6, 4])?;
     assert!(rt; disk.write_new(alloc, b"a", b"1").is_ok());
     assert!(rt; disk.write_new(alloc, b"c", b"").is_err());
     assert_eq!(rt; disk.list(alloc).map_or(0, |names| names.len()), 1);
@@ -199,6 +218,39 @@ fn keepers_seek_below_between_and_above(rt: HostRuntime) -> Result<(), Fail> {
     Ok(())
 }
 
+// The rows after the writes, in order.
+fn applied<K: Keeper>(
+    alloc: Global,
+    keeper: &mut K,
+    writes: &[RowWrite],
+) -> Result<Rowlist, KeeperError>
+    requires { ForSome (K.held keeper.old) (CanApply writes.now) }
+{
+    keeper.apply(alloc, writes)?;
+    let from = id_of(alloc, b"", 0)?;
+    keeper.scan_some(alloc, &from, 5)
+}
+
+fn no_rows(alloc: Global) -> KeeperStart
+    ensures { result ≡ record { rows = []; floor = 0 } }
+{
+    KeeperStart {
+        rows: Rowlist::new(alloc),
+        floor: 0,
+    }
+}
+
+#[tactic(auto, unfolding(agg_outside::specs::Rows::id_cmp))]
+fn additions(alloc: Global) -> Result<Vec<RowWrite>, Memory>
+    ensures { IfOk result (λ writes. CanApply writes.items (record { rows = []; floor = 0 })) }
+{
+    let mut writes = Vec::new(alloc);
+    writes.push(RowWrite::Insert(row_of(alloc, b"d", 2)?))?;
+    writes.push(RowWrite::Floor(6))?;
+    writes.push(RowWrite::Insert(row_of(alloc, b"b", 1)?))?;
+    Ok(writes)
+}
+
 #[tactic(auto, unfolding(agg_outside::specs::Rows::id_cmp))]
 fn four_writes(alloc: Global) -> Result<Vec<RowWrite>, Memory>
     ensures { IfOk result (λ writes. CanApply writes.items (record { rows = []; floor = 0 })) }
@@ -212,18 +264,49 @@ fn four_writes(alloc: Global) -> Result<Vec<RowWrite>, Memory>
     Ok(writes)
 }
 
+// Two of the four writes, of rows that two_rows has.
+#[tactic(auto, unfolding(agg_outside::specs::Rows::id_cmp))]
+fn changes(alloc: Global) -> Result<(KeeperStart, Vec<RowWrite>), Memory>
+    ensures ascends { IfOk result (λ pair. IsTrue (ascends pair.0.rows)) }
+    ensures can { IfOk result (λ pair. CanApply pair.1.items (record { rows = pair.0.rows; floor = pair.0.floor })) }
+{
+    let mut rows = Rowlist::new(alloc);
+    rows.push(row_of(alloc, b"b", 1)?)?;
+    rows.push(row_of(alloc, b"d", 2)?)?;
+    let mut writes = Vec::new(alloc);
+    writes.push(RowWrite::Kill(id_of(alloc, b"d", 2)?, 8))?;
+    writes.push(RowWrite::Remove(id_of(alloc, b"b", 1)?))?;
+    Ok((KeeperStart { rows, floor: 6 }, writes))
+}
+
+fn is_killed_alone(rows: &Rowlist) -> bool {
+    rows.len() == 1 && rows.get(0).is_some_and(|row| row.killed == 8)
+}
+
 #[test]
 fn apply_makes_all_four_writes_in_order(rt: HostRuntime) -> Result<(), Fail> {
     let alloc = rt.alloc();
-    let start = KeeperStart {
-        rows: Rowlist::new(alloc),
-        floor: 0,
-    };
-    let mut keeper = MemKeeper::new(alloc, &start, &[])?;
     let writes = four_writes(alloc)?;
-    assert_eq!(rt; keeper.apply(alloc, &writes), Ok(()));
-    assert_eq!(rt; keeper.rows().len(), 1);
-    assert_eq!(rt; keeper.rows().get(0).map_or(0, |row| row.killed), 8);
+    let mut keeper = MemKeeper::new(alloc, &no_rows(alloc), &[])?;
+    assert!(rt; is_killed_alone(&applied(alloc, &mut keeper, &writes)?));
+    assert!(rt; is_killed_alone(keeper.rows()));
     assert_eq!(rt; keeper.floor(), Ok(6));
+    let mut sure = SureKeeper::new(alloc, &no_rows(alloc))?;
+    assert!(rt; is_killed_alone(&applied(alloc, &mut sure, &writes)?));
+    assert_eq!(rt; sure.floor(), Ok(6));
+    Ok(())
+}
+
+#[test]
+fn a_tree_takes_additions_alone_and_changes_alone(rt: HostRuntime) -> Result<(), Fail> {
+    let alloc = rt.alloc();
+    let mut sure = SureKeeper::new(alloc, &no_rows(alloc))?;
+    let rows = applied(alloc, &mut sure, &additions(alloc)?)?;
+    assert_eq!(rt; rows.len(), 2);
+    assert!(rt; rows.get(0).is_some_and(|row| row.id.tx == 1));
+    assert_eq!(rt; sure.rows(alloc)?.len(), 2);
+    let (start, writes) = changes(alloc)?;
+    let mut sure = SureKeeper::new(alloc, &start)?;
+    assert!(rt; is_killed_alone(&applied(alloc, &mut sure, &writes)?));
     Ok(())
 }

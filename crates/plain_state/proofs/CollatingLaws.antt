@@ -21,16 +21,18 @@ use Rattle.agg_model.specs.declared.entity.Entity.{Entity}
 use Rattle.agg_model.specs.declared.change.Act.{Act}
 use Rattle.agg_model.specs.declared.change.Act.TheVariants.{Put, Del, Mark}
 use Rattle.agg_model.specs.declared.change.Change.{Change}
-use Rattle.agg_model.specs.Entity.{entity_number, entity_number-injective}
+use Rattle.agg_model.specs.Entity.{entity_number}
+use Rattle.agg_model.proofs.EntityLaws.{entity_number-injective}
 use Rattle.agg_model.specs.Place.{place_of, is_before}
 use Rattle.agg_model.specs.Batch.{HasNoRepeats}
 use Rattle.agg_model.specs.ChangeList.{ChangeList, IsChangeList}
 use Rattle.agg_model.specs.Arranged.{arranged, Ascend}
-use Rattle.agg_model.specs.ArrangedLaws.{arranged-Ascend, arranged-IsPermutation}
+use Rattle.agg_model.proofs.ArrangedLaws.{arranged-Ascend, arranged-IsPermutation}
 use Rattle.agg_model.specs.Contents.{is_within, changes_over}
-use Rattle.agg_model.specs.ContentsLaws.{filter-none, is_within-true, changes_over-arranged}
-use Rattle.plain_state.specs.Rows.{id_of, row_of, rows_of, act_number, row_value, held_for}
-use Rattle.plain_state.specs.Collating.{act_in, change_in, only_of, listed, taken, next_number, next_place, first_place}
+use Rattle.agg_model.proofs.ContentsLaws.{filter-none, is_within-true, changes_over-arranged}
+use Rattle.agg_model.specs.Act.{act_number, act_value, act_in}
+use Rattle.plain_state.specs.Rows.{id_of, row_of, rows_of, held_for}
+use Rattle.plain_state.specs.Collating.{change_in, only_of, listed, taken, next_number, next_place, first_place}
 use Rattle.plain_state.proofs.RowLaws.{is_before-id_of}
 
 -- the change is within, and not before the place
@@ -169,7 +171,7 @@ next_down from to n m h low high = next_down-by from to n m (nat_lt n from) (nat
 
 -- ---- the change of a row
 
-act_in-of : (act : Act) → act_in (act_number act) (row_value act) ≡ Some act
+act_in-of : (act : Act) → act_in (act_number act) (act_value act) ≡ Some act
 act_in-of (Put value) = refl
 act_in-of Del = refl
 act_in-of Mark = refl

@@ -20,7 +20,7 @@ use Rattle.agg_model.specs.Entity.{entity_number}
 use Rattle.agg_model.specs.Place.{place_of, is_before}
 use Rattle.agg_model.specs.Batch.{HasNoRepeats}
 use Rattle.agg_model.specs.Arranged.{arranged, Ascend}
-use Rattle.agg_model.specs.ArrangedLaws.{arranged-Ascend}
+use Rattle.agg_model.proofs.ArrangedLaws.{arranged-Ascend}
 use Rattle.plain_state.specs.Rows.{id_of, row_of, rows_of, is_for, row_from}
 use Rattle.plain_state.specs.Reading.{is_uncovered, uncovered}
 use Rattle.plain_state.proofs.RowLaws.{id_before, is_before-id_of}

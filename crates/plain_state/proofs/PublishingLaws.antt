@@ -1,50 +1,18 @@
 -- Laws of a file that is written under one name and moved to another.
-use Rattle.std.proofs.Common.{◌≡◌, ◌≢◌, ◌⊎◌, inl, inr, ℕ, ◌+◌, Bool, true, false, cond, List, length, Option, Some, None, is_some, IsTrue, IfSome, IfNone, IsSomeAnd, Result, Ok, Err, refl, ap, subst, sym, ◌∙◌, arith}
+use Rattle.std.proofs.Common.{◌≡◌, ◌≢◌, inl, inr, ℕ, ◌+◌, Bool, true, false, cond, List, length, Option, Some, None, is_some, IsTrue, IfSome, IfNone, IsSomeAnd, Result, Ok, Err, refl, ap, subst, sym, ◌∙◌, arith}
 use Rattle.std.specs.Prelude.{OnOk, OnErr, codes}
 use Rattle.std.specs.Option.{ForSome, option_map_or}
-use Rattle.std.specs.declared.cmp.Ordering.{Ordering}
-use Rattle.std.specs.declared.cmp.Ordering.TheVariants.{Less, Equal, Greater}
-use Rattle.std.specs.Ordering.{nat_cmp, is_eq, eq_by_cmp}
-use Rattle.std.specs.Cmp.{tied_itself}
+use Rattle.std.specs.Ordering.{nat_cmp, eq_by_cmp}
 use Rattle.std.specs.Cmp.Lexicographic.{slice_cmp, nat_list_cmp_total}
-use Rattle.std.specs.FinMap.{get, insert, remove, contains_key, get-insert, get-remove, same_map, IsAntisymmetric, nat_cmp-IsAntisymmetric, slice_cmp-IsAntisymmetric}
+use Rattle.std.specs.FinMap.{get, insert, remove, contains_key, get-insert, get-remove, same_map}
 use Rattle.std.proofs.lemmas.List.{length-append}
 use Rattle.agg_outside.specs.Files.{Files, renamed, SameElsewhere, WasDoneOrNot}
 use Rattle.merge_ranges.specs.declared.name.FileName.{FileName}
 use Rattle.merge_ranges.specs.Name.{spelled, spelled_on_disk}
-use Rattle.plain_state.specs.Publishing.{temporary_of, SameBeside, IsOldOrWhole}
+use Rattle.agg_core.specs.Files.{temporary_of, LeftBy}
+use Rattle.agg_core.proofs.OneName.{one_name, inserted, beside_insert}
 
 -- ---- one file of a map
-
-pub one_name : IsAntisymmetric (slice_cmp nat_cmp)
-one_name = slice_cmp-IsAntisymmetric nat_cmp-IsAntisymmetric
-
-pub eq_is : (r : Ordering) → is_eq r ≡ true → r ≡ Equal
-eq_is Less h = cc h
-eq_is Equal h = refl
-eq_is Greater h = cc h
-
-pub itself : (name : List ℕ) → eq_by_cmp (slice_cmp nat_cmp) name name ≡ true
-itself name = ap is_eq (tied_itself nat_list_cmp_total name)
-
-apart-by : (a b : List ℕ) (t : Bool) → eq_by_cmp (slice_cmp nat_cmp) a b ≡ t → a ≢ b → t ≡ false
-apart-by a b true e differ = absurd (differ (one_name a b (eq_is (slice_cmp nat_cmp a b) e)))
-apart-by a b false e differ = refl
-
-pub apart : (a b : List ℕ) → a ≢ b → eq_by_cmp (slice_cmp nat_cmp) a b ≡ false
-apart a b differ = apart-by a b (eq_by_cmp (slice_cmp nat_cmp) a b) refl differ
-
-pub inserted : (f : Files) (name bytes : List ℕ) → get (insert f name bytes) name ≡ Some bytes
-inserted f name bytes =
-    get-insert nat_list_cmp_total f name bytes name ∙ ap (λ t. cond t (Some bytes) (get f name)) (itself name)
-
-pub beside_insert : (f : Files) (name bytes other : List ℕ) → other ≢ name → get (insert f name bytes) other ≡ get f other
-beside_insert f name bytes other differ =
-    get-insert nat_list_cmp_total f name bytes other ∙ ap (λ t. cond t (Some bytes) (get f other)) (apart other name differ)
-
-beside_remove : (f : Files) (name other : List ℕ) → other ≢ name → get (remove f name) other ≡ get f other
-beside_remove f name other differ =
-    get-remove nat_list_cmp_total f name other ∙ ap (λ t. cond t None (get f other)) (apart other name differ)
 
 shadowed : {A : Type 0} (t : Bool) (x y z : A) → cond t x (cond t y z) ≡ cond t x z
 shadowed true x y z = refl
@@ -68,40 +36,18 @@ moved temporary name bytes f =
     ap (λ o. option_map_or (λ found. insert (remove written temporary) name found) o written) (inserted f temporary bytes)
     ∙ ap (λ g. insert g name bytes) (removed_again f temporary bytes)
 
--- what both calls may leave: no other file than that of the temporary name is touched, or all is done
-abbrev pub LeftBy : List ℕ → List ℕ → List ℕ → Files → Files → Type 0
-LeftBy temporary name bytes f g = SameElsewhere temporary f g ⊎ (g ≡ insert (remove f temporary) name bytes)
+pub quiet : (before mid after : Option Files) → IfNone before (mid ≡ None) → IfNone mid (after ≡ None) → IfNone before (after ≡ None)
+quiet None mid after one two = let P : Option Files → Type 0 = λ o. IfNone o (after ≡ None) in subst P one two
+quiet (Some f) mid after one two = tt
 
-left_beside : (temporary name bytes : List ℕ) (f g : Files) → LeftBy temporary name bytes f g → SameBeside temporary name f g
-left_beside temporary name bytes f g (inl begun) = λ other a b. begun other a
-left_beside temporary name bytes f g (inr done) = λ other a b.
-    ap (λ h. get h other) done ∙ beside_insert (remove f temporary) name bytes other b ∙ beside_remove f temporary other a
-
-left_whole : (temporary name bytes : List ℕ) (f g : Files) → name ≢ temporary → LeftBy temporary name bytes f g → IsOldOrWhole name bytes f g
-left_whole temporary name bytes f g differ (inl begun) = inl (begun name differ)
-left_whole temporary name bytes f g differ (inr done) = inr (ap (λ h. get h name) done ∙ inserted (remove f temporary) name bytes)
-
+-- only the first call was tried
 some_weaker : (P Q : Files → Type 0) (o : Option Files) → ((g : Files) → P g → Q g) → IsSomeAnd o P → IsSomeAnd o Q
 some_weaker P Q None f h = h
 some_weaker P Q (Some g) f h = f g h
 
-pub others : (temporary name bytes : List ℕ) (before after : Option Files) → IfSome before (λ f. IsSomeAnd after (LeftBy temporary name bytes f)) → IfSome before (λ f. IsSomeAnd after (SameBeside temporary name f))
-others temporary name bytes None after left = tt
-others temporary name bytes (Some f) after left = some_weaker (LeftBy temporary name bytes f) (SameBeside temporary name f) after (λ g h. left_beside temporary name bytes f g h) left
-
-pub whole : (temporary name bytes : List ℕ) (before after : Option Files) → name ≢ temporary → IfSome before (λ f. IsSomeAnd after (LeftBy temporary name bytes f)) → IfSome before (λ f. IsSomeAnd after (IsOldOrWhole name bytes f))
-whole temporary name bytes None after differ left = tt
-whole temporary name bytes (Some f) after differ left = some_weaker (LeftBy temporary name bytes f) (IsOldOrWhole name bytes f) after (λ g h. left_whole temporary name bytes f g differ h) left
-
--- a disk that tells goes on telling, and one that doesn't never does
-pub telling : (P : Files → Files → Type 0) (before after : Option Files) → IfSome before (λ f. IsSomeAnd after (P f)) → IfNone before (after ≡ None) → is_some after ≡ is_some before
-telling P None after some none = ap is_some none
-telling P (Some f) None some none = absurd some
-telling P (Some f) (Some g) some none = refl
-
-pub quiet : (before mid after : Option Files) → IfNone before (mid ≡ None) → IfNone mid (after ≡ None) → IfNone before (after ≡ None)
-quiet None mid after one two = let P : Option Files → Type 0 = λ o. IfNone o (after ≡ None) in subst P one two
-quiet (Some f) mid after one two = tt
+pub begun : (temporary name bytes : List ℕ) (before after : Option Files) → IfSome before (λ f. IsSomeAnd after (SameElsewhere temporary f)) → IfSome before (λ f. IsSomeAnd after (LeftBy temporary name bytes f))
+begun temporary name bytes None after left = tt
+begun temporary name bytes (Some f) after left = some_weaker (SameElsewhere temporary f) (LeftBy temporary name bytes f) after (λ g h. inl h) left
 
 -- the file is there to be moved
 pub there : (temporary bytes : List ℕ) (before mid : Option Files) → IfSome before (λ f. mid ≡ Some (insert f temporary bytes)) → IfNone before (mid ≡ None) → ForSome mid (λ f. IsTrue (contains_key f temporary))

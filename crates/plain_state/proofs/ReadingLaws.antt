@@ -6,7 +6,8 @@ use Rattle.std.proofs.lemmas.Bool.{leb-true, leb-false}
 use Rattle.std.proofs.lemmas.Grind.{common_steps}
 use Rattle.std.proofs.lemmas.List.{map-append, length-append}
 use Rattle.agg_outside.specs.declared.rows.Row.{Row}
-use Rattle.agg_outside.specs.Files.{Files}
+use Rattle.agg_outside.specs.declared.disk.Disk.{Ghosts as DiskGhosts}
+use Rattle.agg_outside.specs.declared.keeper.Keeper.{Ghosts as KeeperGhosts}
 use Rattle.agg_outside.specs.Rows as rows
 use Rattle.agg_outside.specs.Rows.{Held, ascends}
 use Rattle.agg_model.specs.declared.entity.Entity.{Entity}
@@ -19,13 +20,16 @@ use Rattle.agg_model.specs.Batch.{HasNoRepeats}
 use Rattle.agg_model.specs.Arranged as sorted
 use Rattle.agg_model.specs.Arranged.{arranged}
 use Rattle.agg_model.specs.ChangeList.{ChangeList, IsChangeList, value_at}
-use Rattle.agg_model.specs.CoverageLaws.{value_at-files}
+use Rattle.agg_model.proofs.CoverageLaws.{value_at-files}
 use Rattle.agg_model.specs.Pairs.{held_value, newest_word, step_files, value_over, only_from}
 use Rattle.domain_core.specs.KvFile.{TaggedPairs, pairs_of_files}
 use Rattle.plain_state.specs.declared.store.Store.{Store}
-use Rattle.plain_state.specs.Reading.{files_read, uncovered, Covers}
+use Rattle.plain_state.specs.Reading.{files_read, uncovered, Reads}
 use Rattle.plain_state.specs.Rows.{rows_of, row_of, row_from, value_of_row}
-use Rattle.plain_state.specs.Store.{step_file, files_of_steps, Holds}
+use Rattle.plain_state.specs.Store.{Holds, HasView}
+use Rattle.plain_state.specs.Canonical.{step_file, files_of_steps}
+use Rattle.plain_state.specs.declared.view.View.{View}
+use Rattle.agg_core.specs.Names.{has_files}
 use Rattle.plain_state.proofs.RowLaws.{id_before, row_from-last_before, value_of_row-change}
 use Rattle.plain_state.proofs.CoverLaws.{same_look, rows_of-ascends}
 
@@ -61,13 +65,13 @@ pairs-files_of_steps list (suc n) =
     map-append (λ (f : TaggedPairs). f.pairs) (files_of_steps list n) (step_file list n ∷ [])
     ∙ ap (λ (ps : List (List Pair)). ps ++ (step_file list n).pairs ∷ []) (pairs-files_of_steps list n)
 
--- a store that holds a list has its first steps in as many files, and all rows
-pub covers : {D K : Type 0} {files : D → Option Files} {held : K → Option Held} {store : Store D K} {list : ChangeList} (count : ℕ) → Holds files held store list → count ≤ length store.files → Covers held count store list
-covers {D} {K} {files} {held} {store} {list} count holds within = record {
+-- a view of a store that holds a list reads that list
+pub reads : {D K : Type 0} {disk : DiskGhosts D} {keeper : KeeperGhosts K} {store : Store D K} {list : ChangeList} (view : View) → Holds disk keeper store list → HasView store view → Reads keeper view store list
+reads {D} {K} {disk} {keeper} {store} {list} view holds has = record {
   valid = holds.valid;
   size = holds.size;
-  read = ap (take count) holds.read ∙ take-files_of_steps list (length store.files) count within;
-  rows = subst (λ (o : Option Held). IsSomeAnd o (λ h. uncovered (count * list.size) h.rows ≡ uncovered (count * list.size) (rows_of list.changes))) (sym holds.rows) refl;
+  read = ap (take view.files) holds.read ∙ take-files_of_steps list (length store.files) view.files has.files;
+  rows = subst (λ (o : Option Held). IsSomeAnd o (λ h. uncovered (view.files * list.size) h.rows ≡ uncovered (view.files * list.size) (rows_of list.changes))) (sym holds.rows) refl;
 }
 
 -- ---- what a look-up goes into
@@ -91,7 +95,7 @@ some_seen list count seen is =
     }
 
 are_steps : (list : ChangeList) (e : Entity) (count : ℕ) (files : List TaggedPairs) → take count files ≡ files_of_steps list count → AreSteps list e count (files_read e count files)
-unfolding entity_number
+unfolding entity_number has_files
 are_steps list Accounts count files is = some_seen list count (take count files) is
 are_steps list Storage count files is = none_seen list Storage count refl
 are_steps list Code count files is = none_seen list Code count refl

@@ -24,11 +24,12 @@ use Rattle.agg_model.specs.Pairs.{only_from, value_over}
 use Rattle.agg_model.specs.ChangeList.{value_of_act}
 use Rattle.std.proofs.lemmas.List.Sorted.{All-permutation}
 use Rattle.std.proofs.lemmas.List.Elements.{All-cons, All-head, All-tail}
-use Rattle.agg_model.specs.ArrangedLaws.{IsNew, put_in-IsPermutation, arranged-IsPermutation, arranged-append}
-use Rattle.agg_model.specs.PlaceOrder.{is_before-back, is_before-else}
+use Rattle.agg_model.proofs.ArrangedLaws.{IsNew, put_in-IsPermutation, arranged-IsPermutation, arranged-append}
+use Rattle.agg_model.proofs.PlaceOrder.{is_before-back, is_before-else}
 use Rattle.agg_model.specs.Arranged as sorted
 use Rattle.agg_model.specs.Arranged.{put_in, arranged_from, arranged, value_for}
-use Rattle.plain_state.specs.Rows.{id_of, row_of, rows_of, act_number, row_value, value_of_row, row_from, held_for, writes_of}
+use Rattle.agg_model.specs.Act.{act_number, act_value}
+use Rattle.plain_state.specs.Rows.{id_of, row_of, rows_of, value_of_row, row_from, held_for, writes_of}
 
 -- a last comparison that ties says nothing
 tie_last : (x y z : Ordering) → is_lt (ordering_then x (ordering_then y (ordering_then z Equal))) ≡ is_lt (ordering_then x (ordering_then y z))
@@ -76,10 +77,10 @@ last_before-rows e k n (c ∷ cs) = rw (is_before-id_before c e k n, last_before
 
 -- ---- the value that a look-up finds
 
-act_value : (act : Act) → value_of_row (act_number act) (row_value act) ≡ value_of_act act
-act_value (Put value) = refl
-act_value Del = refl
-act_value Mark = refl
+valued_act : (act : Act) → value_of_row (act_number act) (act_value act) ≡ value_of_act act
+valued_act (Put value) = refl
+valued_act Del = refl
+valued_act Mark = refl
 
 opened : (t : Bool) (c : Change) → cond t (Some (row_of c)) None ≡ option_map row_of (cond t (Some c) None)
 opened true c = refl
@@ -100,7 +101,7 @@ row_from-last_before cs from e k n =
 -- what a row tells of the value is what its change leaves
 pub value_of_row-change : (found : Option (List ℕ)) (c : Change) → value_of_row (row_of c).act (row_of c).value ≡ value_over found (Some c)
 unfolding row_of
-value_of_row-change found c = act_value c.act
+value_of_row-change found c = valued_act c.act
 
 -- ---- rows put in
 

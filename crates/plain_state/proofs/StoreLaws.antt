@@ -1,25 +1,30 @@
 -- Laws of the accepted changes as rows.
-use Rattle.std.proofs.Common.{◌≡◌, ◌≢◌, ℕ, zero, suc, ◌+◌, ◌-◌, ◌*◌, ◌^◌, ◌<◌, ◌≤◌, true, false, List, [], ◌∷◌, ◌++◌, length, get_or, All, Option, Some, None, IfSome, IfNone, refl, ap, subst, sym, ◌∙◌, arith}
+use Rattle.std.proofs.Common.{◌≡◌, ◌≢◌, ℕ, zero, suc, ◌+◌, ◌-◌, ◌*◌, ◌^◌, ◌<◌, ◌≤◌, true, false, List, [], ◌∷◌, ◌++◌, length, get_or, All, Option, Some, None, IfSome, IfNone, IsSomeAnd, refl, ap, subst, sym, ◌∙◌, arith}
 use Rattle.std.specs.List.{slice_get}
-use Rattle.std.specs.FinMap.{get}
 use Rattle.std.specs.Option.{ForSome}
 use Rattle.std.proofs.lemmas.Bool.{leb-true, le-leb, lt-leb}
 use Rattle.std.proofs.lemmas.Option.{slice_get_within}
 use Rattle.agg_outside.specs.declared.rows.RowWrite.{RowWrite}
-use Rattle.agg_outside.specs.Files.{Files}
 use Rattle.agg_outside.specs.Rows.{Held, applied, CanApply}
 use Rattle.agg_model.specs.declared.change.Change.{Change}
 use Rattle.agg_model.specs.Batch.{AscendFrom, IsBatch, HasNoRepeats, content_of}
-use Rattle.agg_model.specs.ChangeList.{ChangeList, next_of, grown}
+use Rattle.agg_model.specs.ChangeList.{ChangeList, next_of, grown, begins_from}
 use Rattle.agg_model.specs.Place.{Place, place_of}
 use Rattle.agg_model.specs.Merged.{merged}
-use Rattle.agg_model.specs.MergedLaws.{merged-IsBatch, merged-All, merged-HasNoRepeats, merged-content}
-use Rattle.agg_model.specs.ArrangedLaws.{IsNew}
-use Rattle.agg_model.specs.GrownLaws.{AscendFrom-All, next_of-above, next_of-within, below-next_of, grown-IsChangeList}
+use Rattle.agg_model.proofs.MergedLaws.{merged-IsBatch, merged-All, merged-HasNoRepeats, merged-content}
+use Rattle.agg_model.proofs.ArrangedLaws.{IsNew}
+use Rattle.agg_model.proofs.GrownLaws.{AscendFrom-All, next_of-above, next_of-within, below-next_of, grown-IsChangeList}
 use Rattle.plain_state.specs.declared.store.Store.{Store}
 use Rattle.plain_state.specs.Rows.{held_for, writes_of}
-use Rattle.plain_state.specs.Store.{AreBelow, IsStore, Holds, Keeps, Commits, begins_from}
-use Rattle.plain_state.proofs.CanonicalLaws.{files_of_steps-later, files_named-later}
+use Rattle.plain_state.specs.Store.{AreBelow, IsStore, Holds, Keeps, Commits, steps_held}
+use Rattle.plain_state.specs.Canonical.{held_names}
+use Rattle.agg_core.specs.Rows.{HasRows}
+use Rattle.agg_core.proofs.Kept.{exactly-later}
+use Rattle.agg_outside.specs.declared.disk.Disk.{Ghosts as DiskGhosts}
+use Rattle.agg_outside.specs.declared.keeper.Keeper.{Ghosts as KeeperGhosts}
+use Rattle.plain_state.proofs.CanonicalLaws.{files_of_steps-later}
+use Rattle.plain_state.proofs.SettlingLaws.{whole_left}
+use Rattle.plain_state.proofs.GoingLaws.{held_small, held_due, has_rows}
 use Rattle.plain_state.proofs.RowLaws.{can_apply, row_at-above, AreBelow-raise, AreBelow-applied, held_for-append}
 
 pub content_of-append : (cs ds : List Change) → content_of (cs ++ ds) ≡ content_of cs + content_of ds
@@ -84,8 +89,8 @@ below_after (Some b) after batch low high up within below e = λ h told.
 le_trans : {a b c : ℕ} → a ≤ b → b ≤ c → a ≤ c
 le_trans h k = omega (arith, h, k)
 
-pub sound_after : {D K : Type 0} (held : K → Option Held) (most : ℕ) (old new : Store D K) (batch : List Change) → new.files ≡ old.files → IsStore held most old → IsBatch old.next (4096 * old.size) batch → Added (held old.keeper) batch (held new.keeper) → new.size ≡ old.size → new.next ≡ next_of old.next batch → new.content ≤ most → IsStore held most new
-sound_after held most old new batch files sound fits rows size next content =
+pub sound_after : {D K : Type 0} (keeper : KeeperGhosts K) (most : ℕ) (old new : Store D K) (batch : List Change) → new.files ≡ old.files → IsStore keeper most old → IsBatch old.next (4096 * old.size) batch → Added (keeper.held old.keeper) batch (keeper.held new.keeper) → new.size ≡ old.size → new.next ≡ next_of old.next batch → new.content ≤ most → IsStore keeper most new
+sound_after keeper most old new batch files sound fits rows size next content =
     let within : next_of old.next batch ≤ 4096 * old.size = next_of-within old.next (4096 * old.size) batch sound.next_within fits.below_far in
     let up : old.next ≤ next_of old.next batch = next_of-above old.next old.next batch (omega arith) fits.ascend in
     record {
@@ -94,13 +99,13 @@ sound_after held most old new batch files sound fits rows size next content =
       next_within = rw (next, size) within;
       content = content;
       complete = rw (files, size, next) (le_trans sound.complete up);
-      below = rw next (below_after (held old.keeper) (held new.keeper) batch old.next (next_of old.next batch) up (below-next_of old.next old.next batch fits.ascend) sound.below rows);
+      below = rw next (below_after (keeper.held old.keeper) (keeper.held new.keeper) batch old.next (next_of old.next batch) up (below-next_of old.next old.next batch fits.ascend) sound.below rows);
     }
 
-pub grows_after : {D K : Type 0} (files : D → Option Files) (held : K → Option Held) (old new : Store D K) (list : ChangeList) (batch : List Change) → new.disk ≡ old.disk → new.files ≡ old.files → Holds files held old list → IsBatch old.next (4096 * old.size) batch → HasNoRepeats batch → Added (held old.keeper) batch (held new.keeper) → new.size ≡ old.size → new.next ≡ next_of old.next batch → new.content ≡ old.content + content_of batch → Holds files held new (grown list batch)
-grows_after files held old new list batch same_disk same_files holds fits none rows size next content =
-    let P : Option Held → Type 0 = λ o. Added o batch (held new.keeper) in
-    let there : held new.keeper ≡ Some (applied (writes_of batch) (held_for list.changes)) = subst P holds.rows rows in
+pub grows_after : {D K : Type 0} (disk : DiskGhosts D) (keeper : KeeperGhosts K) (old new : Store D K) (list : ChangeList) (batch : List Change) → new.disk ≡ old.disk → new.files ≡ old.files → Holds disk keeper old list → IsBatch old.next (4096 * old.size) batch → HasNoRepeats batch → Added (keeper.held old.keeper) batch (keeper.held new.keeper) → new.size ≡ old.size → new.next ≡ next_of old.next batch → new.content ≡ old.content + content_of batch → Holds disk keeper new (grown list batch)
+grows_after disk keeper old new list batch same_disk same_files holds fits none rows size next content =
+    let P : Option Held → Type 0 = λ o. Added o batch (keeper.held new.keeper) in
+    let there : keeper.held new.keeper ≡ Some (applied (writes_of batch) (held_for list.changes)) = subst P holds.rows rows in
     let fits_list : IsBatch list.next (4096 * list.size) batch = rw (← holds.next, ← holds.size) fits in
     let late : All (λ d. list.next ≤ d.tx) batch = AscendFrom-All list.next batch fits_list.ascend in
     record {
@@ -111,27 +116,27 @@ grows_after files held old new list batch same_disk same_files holds fits none r
       size = size ∙ holds.size;
       complete = rw same_files (le_trans holds.complete (next_of-above list.next list.next batch (omega arith) fits_list.ascend));
       read = rw same_files (holds.read ∙ sym (files_of_steps-later list batch late (length old.files) holds.complete));
-      disk = λ f told. rw same_files (holds.disk f (ap files (sym same_disk) ∙ told) ∙ sym (files_named-later list batch late (length old.files) holds.complete));
+      stand = λ f told. rw same_files (exactly-later list batch (held_names (length old.files)) f late (held_due list (length old.files) holds.valid holds.complete) (holds.stand f (ap disk.files (sym same_disk) ∙ told)));
     }
 
-pub commits_after : {D K : Type 0} (files : D → Option Files) (held : K → Option Held) (most : ℕ) (old new : Store D K) (pending : List Change) → new.disk ≡ old.disk → new.files ≡ old.files → IsBatch 0 (4096 * old.size) pending → begins_from old.next pending ≡ true → old.content + content_of (merged pending) ≤ most → Added (held old.keeper) (merged pending) (held new.keeper) → new.size ≡ old.size → new.next ≡ next_of old.next (merged pending) → new.content ≡ old.content + content_of (merged pending) → (list : ChangeList) → Holds files held old list → Commits files held most list pending (Some (record { changes = length (merged pending); next = new.next })) new
-commits_after files held most old new pending same_disk same_files batch begins content rows size next counted list holds =
+pub commits_after : {D K : Type 0} (disk : DiskGhosts D) (keeper : KeeperGhosts K) (most : ℕ) (old new : Store D K) (pending : List Change) → new.disk ≡ old.disk → new.files ≡ old.files → IsBatch 0 (4096 * old.size) pending → begins_from old.next pending ≡ true → old.content + content_of (merged pending) ≤ most → Added (keeper.held old.keeper) (merged pending) (keeper.held new.keeper) → new.size ≡ old.size → new.next ≡ next_of old.next (merged pending) → new.content ≡ old.content + content_of (merged pending) → (list : ChangeList) → Holds disk keeper old list → Commits disk keeper most list pending (Some (record { changes = length (merged pending); next = new.next })) new
+commits_after disk keeper most old new pending same_disk same_files batch begins content rows size next counted list holds =
     let within : content_of list.changes + content_of (merged pending) ≤ most = rw (← holds.content) content in
     let begins_list : begins_from list.next pending ≡ true = rw (← holds.next) begins in
     record {
       could = sym (rw (begins_list, le-leb (content_of list.changes + content_of (merged pending)) most within));
       told = λ i. record { changes = length (merged pending); next = (next ∙ ap (λ n. next_of n (merged pending)) holds.next) i };
-      grows = grows_after files held old new list (merged pending) same_disk same_files holds (next_batch old.next (4096 * old.size) pending batch begins) (merged-HasNoRepeats pending) rows size next counted;
+      grows = grows_after disk keeper old new list (merged pending) same_disk same_files holds (next_batch old.next (4096 * old.size) pending batch begins) (merged-HasNoRepeats pending) rows size next counted;
       same = tt;
     }
 
-pub refuses_first : {D K : Type 0} (files : D → Option Files) (held : K → Option Held) (most : ℕ) (old : Store D K) (pending : List Change) → begins_from old.next pending ≡ false → (list : ChangeList) → Holds files held old list → Commits files held most list pending None old
-refuses_first files held most old pending begins list holds =
+pub refuses_first : {D K : Type 0} (disk : DiskGhosts D) (keeper : KeeperGhosts K) (most : ℕ) (old : Store D K) (pending : List Change) → begins_from old.next pending ≡ false → (list : ChangeList) → Holds disk keeper old list → Commits disk keeper most list pending None old
+refuses_first disk keeper most old pending begins list holds =
     let begins_list : begins_from list.next pending ≡ false = rw (← holds.next) begins in
     record { could = sym (rw begins_list); told = tt; grows = tt; same = holds }
 
-pub refuses_content : {D K : Type 0} (files : D → Option Files) (held : K → Option Held) (most : ℕ) (old : Store D K) (pending : List Change) → begins_from old.next pending ≡ true → most < old.content + content_of (merged pending) → (list : ChangeList) → Holds files held old list → Commits files held most list pending None old
-refuses_content files held most old pending begins over list holds =
+pub refuses_content : {D K : Type 0} (disk : DiskGhosts D) (keeper : KeeperGhosts K) (most : ℕ) (old : Store D K) (pending : List Change) → begins_from old.next pending ≡ true → most < old.content + content_of (merged pending) → (list : ChangeList) → Holds disk keeper old list → Commits disk keeper most list pending None old
+refuses_content disk keeper most old pending begins over list holds =
     let beyond : most < content_of list.changes + content_of (merged pending) = rw (← holds.content) over in
     let begins_list : begins_from list.next pending ≡ true = rw (← holds.next) begins in
     record { could = sym (rw (begins_list, lt-leb (content_of list.changes + content_of (merged pending)) most beyond)); told = tt; grows = tt; same = holds }
@@ -153,12 +158,11 @@ told_added before after pending batch writes passed is_merged are_writes are_pas
     added before after (merged pending) (subst (λ (ws : List RowWrite). IfSome before (λ h. after ≡ Some (applied ws h))) same some) none
 
 -- what a store that holds the list is left as
-pub kept : {D K : Type 0} (files : D → Option Files) (held : K → Option Held) (store : Store D K) (list : ChangeList) → Holds files held store list → Keeps files held store list
-kept files held store list holds = record {
-  rows = holds.rows;
-  disk = λ f told. record {
-    count = length store.files;
-    complete = holds.complete;
-    alike = λ name plain. ap (λ (g : Files). get g name) (holds.disk f told);
-  };
+pub kept : {D K : Type 0} (disk : DiskGhosts D) (keeper : KeeperGhosts K) (store : Store D K) (list : ChangeList) → Holds disk keeper store list → Keeps disk keeper store list
+kept disk keeper store list holds = record {
+  valid = holds.valid;
+  rows = subst (λ (o : Option Held). IsSomeAnd o (λ h. HasRows h list)) (sym holds.rows) (has_rows list);
+  complete = holds.complete;
+  read = holds.read;
+  stand = whole_left list (steps_held store) (disk.files store.disk) (held_small list (steps_held store) holds.valid holds.complete) holds.complete holds.stand;
 }

@@ -4,15 +4,9 @@ use Rattle.std.specs.Option.{option_map}
 use Rattle.agg_outside.specs.declared.rows.RowId.{RowId}
 use Rattle.agg_outside.specs.declared.rows.Row.{Row}
 use Rattle.agg_model.specs.declared.entity.Entity.{Entity}
-use Rattle.agg_model.specs.declared.change.Act.{Act}
-use Rattle.agg_model.specs.declared.change.Act.TheVariants.{Put, Del, Mark}
+use Rattle.agg_model.specs.Act.{act_in}
 use Rattle.agg_model.specs.declared.change.Change.{Change}
 use Rattle.agg_model.specs.Entity.{entity_number}
-
--- the act that a row's number tells, if it tells one
-abbrev pub act_in : ℕ → List ℕ → Option Act
-act_in number value =
-    if number == 0 then Some (Put value) else (if number == 1 then Some Del else (if number == 2 then Some Mark else None))
 
 -- the change of a row of this entity
 abbrev pub change_in : Entity → Row → Option Change

@@ -4,4 +4,3 @@ pub mod Canonical
 pub mod Store
 pub mod Stop
 pub mod Collating
-pub mod Publishing

@@ -1,7 +1,6 @@
 -- The rows that a keeper holds for a list of changes: one for each change, in the order of rows.
-use Rattle.std.specs.Prelude.{ℕ, Bool, ◌==◌, ◌&&◌, nat_eq, nat_le, if◌then◌else◌, List, [], map, Option, Some, None}
-use Rattle.agg_model.specs.declared.change.Act.{Act}
-use Rattle.agg_model.specs.declared.change.Act.TheVariants.{Put, Del, Mark}
+use Rattle.std.specs.Prelude.{ℕ, Bool, ◌==◌, ◌&&◌, nat_eq, nat_le, if◌then◌else◌, List, map, Option, Some, None}
+use Rattle.agg_model.specs.Act.{act_number, act_value}
 use Rattle.agg_model.specs.declared.change.Change.{Change}
 use Rattle.std.specs.Cmp.Lexicographic.{pointwise}
 use Rattle.agg_model.specs.declared.entity.Entity.{Entity}
@@ -13,25 +12,13 @@ use Rattle.agg_outside.specs.declared.rows.RowWrite.{RowWrite}
 use Rattle.agg_outside.specs.declared.rows.RowWrite.TheVariants.{Insert}
 use Rattle.agg_outside.specs.Rows.{Held}
 
--- the number of an act in a row
-abbrev pub act_number : Act → ℕ
-act_number (Put value) = 0
-act_number Del = 1
-act_number Mark = 2
-
--- the value in a row, empty where the act has none
-abbrev pub row_value : Act → List ℕ
-row_value (Put value) = value
-row_value Del = []
-row_value Mark = []
-
 -- the id of the row of a change; every row is born at 1
 abbrev pub id_of : Change → RowId
 id_of c = record { entity = entity_number c.entity; key = c.key; tx = c.tx; born = 1 }
 
 -- the row of a change, which is alive
 unfoldable pub row_of : Change → Row
-row_of c = record { id = id_of c; killed = 0; act = act_number c.act; value = row_value c.act }
+row_of c = record { id = id_of c; killed = 0; act = act_number c.act; value = act_value c.act }
 
 unfoldable pub rows_of : List Change → List Row
 rows_of changes = map row_of (arranged changes)

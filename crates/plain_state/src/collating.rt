@@ -10,7 +10,8 @@ ghost use Rattle.agg_model.specs.ChangeList.{ChangeList, IsChangeList};
 ghost use Rattle.agg_model.specs.Arranged.{arranged};
 ghost use Rattle.agg_model.specs.Contents.{changes_over, is_within};
 ghost use Rattle.plain_state.specs.Rows.{held_for};
-ghost use Rattle.plain_state.specs.Collating.{act_in, only_of, taken, next_number, next_place, first_place};
+ghost use Rattle.agg_model.specs.Act.{act_in};
+ghost use Rattle.plain_state.specs.Collating.{only_of, taken, next_number, next_place, first_place};
 
 use crate::stop::Stop;
 use agg_model::{Act, Batch, Change, Entity, Range};
@@ -119,11 +120,9 @@ fn next_row<K: Keeper>(
 fn act_in(number: u8, value: Bytes) -> Result<Act, Memory>
     ensures { IfOk result (λ act. act_in number value ≡ Some act) }
 {
-    match number {
-        0 => Ok(Act::Put(value)),
-        1 => Ok(Act::Del),
-        2 => Ok(Act::Mark),
-        _ => Err(Memory),
+    match Act::of_number(number, value) {
+        Some(act) => Ok(act),
+        None => Err(Memory),
     }
 }
 

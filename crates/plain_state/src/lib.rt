@@ -2,19 +2,20 @@
 #![tactic(auto)]
 
 mod collating;
-mod laws;
 mod names;
 mod publishing;
 mod reading;
 mod settling;
 mod stop;
 mod store;
-#[cfg(test)]
-mod tests;
+mod view;
 
 pub use collating::step_changes;
-pub use laws::disk_laws;
 pub use names::step_name;
 pub use publishing::publish;
 pub use stop::Stop;
 pub use store::{Accepted, Store};
+pub use view::View;
+
+#[cfg(test)]
+mod tests;

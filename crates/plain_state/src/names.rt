@@ -1,5 +1,6 @@
 //! The names of the files of complete steps.
 ghost use Rattle.std.specs.Prelude.{◌≡◌, ◌+◌, ◌<◌, ◌^◌};
+ghost use Rattle.agg_core.specs.Names.{has_files};
 ghost use Rattle.plain_state.specs.Canonical.{step_name};
 
 use agg_model::{Entity, FileKind, Range};
@@ -18,4 +19,12 @@ pub fn step_name(step: u64) -> FileName
         },
         kind: FileKind::Kv,
     }
+}
+
+/// Whether the entity has files: so far accounts alone.
+#[tactic(auto, unfolding(agg_core::specs::Names::has_files))]
+pub(crate) fn has_files(entity: Entity) -> bool
+    ensures { result ≡ has_files entity }
+{
+    matches!(entity, Entity::Accounts)
 }

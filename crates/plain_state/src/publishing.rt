@@ -1,9 +1,9 @@
 //! A file that comes to its name whole: written under a temporary name first, and then renamed.
-ghost use Rattle.std.specs.Prelude.{◌≡◌, ◌≢◌, Some, None, IfSome, IfNone, IfOk, OnOk, IsSomeAnd, is_some};
+ghost use Rattle.std.specs.Prelude.{◌≡◌, ◌≢◌, Some, None, IfSome, IfNone, IfOk, OnOk, IsSomeAnd};
 ghost use Rattle.std.specs.FinMap as map;
 ghost use Rattle.agg_outside.specs.Counts.{HasCause};
 ghost use Rattle.merge_ranges.specs.Name.{spelled};
-ghost use Rattle.plain_state.specs.Publishing.{temporary_of, SameBeside, IsOldOrWhole};
+ghost use Rattle.agg_core.specs.Files.{temporary_of, LeftBy};
 
 use agg_outside::{Bytes, Disk, DiskError, Memory};
 use merge_ranges::{DiskName, FileName};
@@ -18,10 +18,8 @@ pub fn publish<D: Disk>(
     bytes: &[u8],
 ) -> Result<(), DiskError>
     ensures ok { IfSome (D.files disk.old) (λ f. OnOk result (D.files disk.new ≡ Some (map.insert (map.remove f (temporary_of name.now)) (spelled name.now) bytes.now))) }
-    ensures others { IfSome (D.files disk.old) (λ f. IsSomeAnd (D.files disk.new) (SameBeside (temporary_of name.now) (spelled name.now) f)) }
-    ensures whole { IfSome (D.files disk.old) (λ f. IsSomeAnd (D.files disk.new) (IsOldOrWhole (spelled name.now) bytes.now f)) }
+    ensures left { IfSome (D.files disk.old) (λ f. IsSomeAnd (D.files disk.new) (LeftBy (temporary_of name.now) (spelled name.now) bytes.now f)) }
     ensures silent { IfNone (D.files disk.old) (D.files disk.new ≡ None) }
-    ensures tells { is_some (D.files disk.new) ≡ is_some (D.files disk.old) }
     ensures cause { HasCause DiskError.Failed (D.faults disk.old) (D.faults disk.new) result }
 {
     let temporary = temporary_name(alloc, name)?;
@@ -48,10 +46,8 @@ fn write_and_rename<D: Disk>(
 ) -> Result<(), DiskError>
     requires { name.now ≢ temporary.now }
     ensures ok { IfSome (D.files disk.old) (λ f. OnOk result (D.files disk.new ≡ Some (map.insert (map.remove f temporary.now) name.now bytes.now))) }
-    ensures others { IfSome (D.files disk.old) (λ f. IsSomeAnd (D.files disk.new) (SameBeside temporary.now name.now f)) }
-    ensures whole { IfSome (D.files disk.old) (λ f. IsSomeAnd (D.files disk.new) (IsOldOrWhole name.now bytes.now f)) }
+    ensures left { IfSome (D.files disk.old) (λ f. IsSomeAnd (D.files disk.new) (LeftBy temporary.now name.now bytes.now f)) }
     ensures silent { IfNone (D.files disk.old) (D.files disk.new ≡ None) }
-    ensures tells { is_some (D.files disk.new) ≡ is_some (D.files disk.old) }
     ensures cause { HasCause DiskError.Failed (D.faults disk.old) (D.faults disk.new) result }
 {
     disk.write_new(alloc, temporary, bytes)?;

@@ -1,14 +1,16 @@
 //! Look-ups: the rows from the end of a transaction's own files on, and else these files.
-ghost use Rattle.std.specs.Prelude.{◌≡◌, ◌*◌, ◌<◌, ◌≤◌, length, take, IfOk, IfErr, IfSome};
-ghost use Rattle.agg_outside.specs.Counts.{HasCause};
+ghost use Rattle.std.specs.Prelude.{◌≡◌, ◌*◌, ◌<◌, ◌≤◌, length, take, IfOk, IfErr, IfSome, OnErr};
 ghost use Rattle.agg_model.specs.ChangeList.{ChangeList, value_at};
 ghost use Rattle.agg_model.specs.Pairs.{held_value, newest_word};
 ghost use Rattle.domain_core.specs.KvFile.{pairs_of_files};
 ghost use Rattle.plain_state.specs.Rows.{is_for, value_of_row, row_from};
-ghost use Rattle.plain_state.specs.Reading.{files_read, Covers};
+ghost use Rattle.plain_state.specs.Reading.{files_read, Reads};
+ghost use Rattle.plain_state.specs.Store.{HasView, Holds, Goes, HasCauses};
 
+use crate::names::has_files;
 use crate::stop::Stop;
 use crate::store::Store;
+use crate::view::View;
 use agg_model::Entity;
 use agg_outside::{Bytes, Disk, Keeper, Memory, Row, RowId, Steps};
 use domain_core::{KvFile, newest_value};
@@ -17,32 +19,32 @@ use std::marker::Brand;
 use std::sync::ledger::{Blank, Ledger};
 
 impl<D: Disk, K: Keeper> Store<D, K> {
-    /// The value of a key just before the number `at`, read as a transaction that has the first
-    /// `files` files: its last row from their end on, and else what the newest of these files that has
-    /// the key tells. One look back, however many rows there are.
+    /// The value of a key as the view sees it: its last row from the end of the view's own files on and
+    /// below its number, and else what the newest of these files that has the key tells. One look back,
+    /// however many rows there are.
     pub fn value_before(
         &mut self,
         alloc: Global,
-        files: usize,
-        at: u64,
+        view: &View,
         entity: Entity,
         key: &[u8],
     ) -> Result<Option<Bytes>, Stop>
-        requires within { files ≤ length self.old.files }
-        requires before { files * self.old.size ≤ at }
-        ensures value { (list : ChangeList) → Covers K.held files self.old list → IfOk result (λ value. value ≡ value_at list.changes entity key.now at) }
+        requires { HasView self.old view.now }
+        ensures value { (list : ChangeList) → Reads K.Keeper view.now self.old list → IfOk result (λ value. value ≡ value_at list.changes entity key.now view.now.next) }
         ensures same { self.new ≡ record self.old { keeper = self.new.keeper } }
         ensures rows { K.held self.new.keeper ≡ K.held self.old.keeper }
-        ensures cause { HasCause Stop.Keeper (K.faults self.old.keeper) (K.faults self.new.keeper) result }
         ensures only { IfErr result (λ stop. stop ≡ Stop.Disk → ⊥) }
+        ensures holds { (list : ChangeList) → Holds D.Disk K.Keeper self.old list → Holds D.Disk K.Keeper self.new list }
+        ensures goes { Goes D.Disk K.Keeper self.old self.new }
+        ensures causes { HasCauses D.Disk K.Keeper self.old self.new result }
     {
         let before = RowId {
             entity: entity.number(),
             key: Bytes::of(alloc, key)?,
-            tx: at,
+            tx: view.next,
             born: 0,
         };
-        let files = files_of(self.files.as_slice(), files, entity);
+        let files = files_of(self.files.as_slice(), view.files, entity);
         let from = files.len() as u64 * self.size;
         let row = self.keeper.seek_back(alloc, &before)?;
         match row_from(row, from, entity, key) {
@@ -52,12 +54,12 @@ impl<D: Disk, K: Keeper> Store<D, K> {
     }
 }
 
-// The files that a look-up of the entity goes into: so far accounts alone have some.
+// The files that a look-up of the entity goes into.
 fn files_of(files: &[KvFile], count: usize, entity: Entity) -> &[KvFile]
     requires { count ≤ length files.now }
     ensures { result.now ≡ files_read entity count files.now }
 {
-    if entity.number() == 0 {
+    if has_files(entity) {
         &files[..count]
     } else {
         &[]

@@ -1,13 +1,13 @@
 //! The accepted changes, as rows of a keeper and files on a disk.
 ghost use Rattle.std.specs.Prelude.{◌≡◌, [], ◌*◌, ◌<◌, ◌≤◌, ◌^◌, All, IfOk, IfErr, OnErr};
-ghost use Rattle.agg_outside.specs.Counts.{HasCause};
 ghost use Rattle.agg_model.specs.Batch.{content_of, IsBatch};
-ghost use Rattle.agg_model.specs.ChangeList.{ChangeList, next_of};
-ghost use Rattle.plain_state.specs.Rows.{act_number, row_value, row_of, writes_of};
-ghost use Rattle.plain_state.specs.Store.{IsStore, Holds, Commits, begins_from};
+ghost use Rattle.agg_model.specs.ChangeList.{ChangeList, next_of, begins_from};
+ghost use Rattle.plain_state.specs.Rows.{row_of, writes_of};
+ghost use Rattle.plain_state.specs.Store.{IsStore, Holds, Keeps, Commits, Goes, HasCauses, view_of};
 
 use crate::stop::Stop;
-use agg_model::{Act, Batch, Change, content, merge_repeats};
+use crate::view::View;
+use agg_model::{Batch, Change, content, merge_repeats};
 use agg_outside::{Bytes, Disk, Keeper, ListOf, Memory, Row, RowId, RowWrite};
 use domain_core::KvFile;
 use std::alloc::Global;
@@ -18,16 +18,16 @@ const BORN: u64 = 1;
 /// All accepted changes: their rows, the files of complete steps, and what is counted beside them.
 #[derive(Drop)]
 pub struct Store<D: Disk, K: Keeper> {
-    pub disk: D,
-    pub keeper: K,
-    /// The files of the first complete steps, one step each, from step 0.
-    pub files: ListOf<KvFile>,
-    /// The number from which on the next changes come.
-    pub next: u64,
-    /// The content of the list.
-    pub content: u64,
-    /// How many numbers a step has.
-    pub size: u64,
+    pub(crate) disk: D,
+    pub(crate) keeper: K,
+    // The files of the first complete steps, one step each, from step 0.
+    pub(crate) files: ListOf<KvFile>,
+    // The number from which on the next changes come.
+    pub(crate) next: u64,
+    // The content of the list.
+    pub(crate) content: u64,
+    // How many numbers a step has.
+    pub(crate) size: u64,
 }
 
 /// What a commit did.
@@ -54,6 +54,31 @@ impl<D: Disk, K: Keeper> Store<D, K> {
         }
     }
 
+    /// How many transaction numbers a step has.
+    pub fn size(&self) -> u64
+        ensures { result ≡ self.now.size }
+    {
+        self.size
+    }
+
+    /// What a transaction keeps that is opened now: it reads the changes below the next number.
+    pub fn open(&self) -> View
+        ensures { result ≡ view_of self.now }
+    {
+        View {
+            next: self.next,
+            files: self.files.len(),
+        }
+    }
+
+    /// The disk and the keeper, as they are left.
+    pub fn into_parts(self) -> (D, K)
+        ensures disk { result.0 ≡ self.disk }
+        ensures keeper { result.1 ≡ self.keeper }
+    {
+        (self.disk, self.keeper)
+    }
+
     /// Adds the pending changes, of repeats the last; none where they are refused: where there is
     /// none, where the first is below the next number, or where the content would be above `most`.
     pub fn accept(
@@ -62,19 +87,21 @@ impl<D: Disk, K: Keeper> Store<D, K> {
         most: u64,
         pending: Batch,
     ) -> Result<Option<Accepted>, Stop>
-        requires sound { IsStore K.held most self.old }
+        requires sound { IsStore K.Keeper most self.old }
         requires limit { most ≤ 2 ^ 28 }
         requires batch { IsBatch 0 (4096 * self.old.size) pending }
         requires raw { content_of pending ≤ most }
-        ensures sound { IsStore K.held most self.new }
-        ensures size { self.new.size ≡ self.old.size }
+        ensures sound { IsStore K.Keeper most self.new }
         ensures disk { self.new.disk ≡ self.old.disk }
         ensures files { self.new.files ≡ self.old.files }
-        ensures commits { (list : ChangeList) → Holds D.files K.held self.old list → IfOk result (λ answer. Commits D.files K.held most list pending answer self.new) }
+        ensures commits { (list : ChangeList) → Holds D.Disk K.Keeper self.old list →
+            IfOk result (λ answer. Commits D.Disk K.Keeper most list pending answer self.new) }
         ensures only { IfErr result (λ stop. stop ≡ Stop.Disk → ⊥) }
+        // After an error nothing is added.
         ensures err { OnErr result (self.new ≡ record self.old { keeper = self.new.keeper }) }
-        ensures err_rows { OnErr result (K.held self.new.keeper ≡ K.held self.old.keeper) }
-        ensures cause { HasCause Stop.Keeper (K.faults self.old.keeper) (K.faults self.new.keeper) result }
+        ensures holds { (list : ChangeList) → Holds D.Disk K.Keeper self.old list → OnErr result (Holds D.Disk K.Keeper self.new list) }
+        ensures goes { Goes D.Disk K.Keeper self.old self.new }
+        ensures causes { HasCauses D.Disk K.Keeper self.old self.new result }
     {
         if !begins_from(self.next, &pending) {
             return Ok(None);
@@ -116,25 +143,6 @@ fn next_of(next: u64, changes: &Batch) -> u64
     }
 }
 
-fn act_number(act: &Act) -> u8
-    ensures { result ≡ act_number act.now }
-{
-    match act {
-        Act::Put(_) => 0,
-        Act::Del => 1,
-        Act::Mark => 2,
-    }
-}
-
-fn row_value(alloc: Global, act: &Act) -> Result<Bytes, Memory>
-    ensures { IfOk result (λ value. value ≡ row_value act.now) }
-{
-    match act {
-        Act::Put(value) => value.copy(alloc),
-        Act::Del | Act::Mark => Bytes::of(alloc, &[]),
-    }
-}
-
 #[tactic(auto, unfolding(crate::specs::Rows::row_of))]
 fn row_of(alloc: Global, change: &Change) -> Result<Row, Memory>
     ensures { IfOk result (λ row. row ≡ row_of change.now) }
@@ -147,8 +155,8 @@ fn row_of(alloc: Global, change: &Change) -> Result<Row, Memory>
             born: BORN,
         },
         killed: 0,
-        act: act_number(&change.act),
-        value: row_value(alloc, &change.act)?,
+        act: change.act.number(),
+        value: Bytes::of(alloc, change.act.value())?,
     })
 }
 

@@ -1,7 +1,6 @@
-ghost use Rattle.std.specs.Prelude.{◌≡◌, [], ◌≤◌, ◌^◌, ◌+◌, length, Some, IfOk};
+ghost use Rattle.std.specs.Prelude.{◌≡◌, [], ◌≤◌, ◌^◌, ◌+◌, ◌*◌, length, IfOk};
+ghost use Rattle.std.specs.Option.{ForSome};
 ghost use Rattle.agg_model.specs.Batch.{value_length, content_of};
-ghost use Rattle.memory_side.specs.MemoryKeepers.{mem_held};
-ghost use Rattle.plain_state.specs.Store.{IsStore};
 
 use super::*;
 use agg_model::*;
@@ -79,25 +78,19 @@ fn batch_of(alloc: Global, puts: &[Put]) -> Result<Batch, Memory>
     Ok(batch)
 }
 
-// Nothing yet, in steps of four numbers, over a disk of which these calls fail.
-fn empty_store(alloc: Global, fails: &[u64]) -> Result<Store<MemDisk, MemKeeper>, Memory>
-    ensures sound { IfOk result (λ s. IsStore (λ k. Some (mem_held k)) (2 ^ 28) s) }
-    ensures next { IfOk result (λ s. s.next ≡ 0) }
+// The puts accepted, in steps of four numbers.
+fn accepted_in<D: Disk, K: Keeper>(
+    alloc: Global,
+    disk: D,
+    keeper: K,
+    puts: &[Put],
+) -> Result<Store<D, K>, Fail>
+    requires few { length puts.now ≤ 10 }
+    requires no_rows { ForSome (K.held keeper) (λ h. h.rows ≡ []) }
+    ensures size { IfOk result (λ s. s.size ≡ 4) }
+    ensures next { IfOk result (λ s. s.next ≤ 4096 * 4) }
 {
-    let rows = KeeperStart {
-        rows: Rowlist::new(alloc),
-        floor: 0,
-    };
-    let keeper = MemKeeper::new(alloc, &rows, &[])?;
-    let disk = MemDisk::new(alloc, &FileMap::new(alloc), fails)?;
-    Ok(Store::new(alloc, disk, keeper, 4))
-}
-
-fn accepted(alloc: Global, puts: &[Put], fails: &[u64]) -> Result<Store<MemDisk, MemKeeper>, Fail>
-    requires { length puts.now ≤ 10 }
-    ensures { IfOk result (λ s. IsStore (λ k. Some (mem_held k)) (2 ^ 28) s) }
-{
-    let mut store = empty_store(alloc, fails)?;
+    let mut store = Store::new(alloc, disk, keeper, 4);
     let batch = batch_of(alloc, puts)?;
     let Ok(()) = check_batch(0, 4096 * store.size, &batch) else {
         return Err(Fail::new("a batch that can't be"));
@@ -106,6 +99,21 @@ fn accepted(alloc: Global, puts: &[Put], fails: &[u64]) -> Result<Store<MemDisk,
         return Err(Fail::new("not accepted"));
     };
     Ok(store)
+}
+
+// The same over a disk of which these calls fail.
+fn accepted(alloc: Global, puts: &[Put], fails: &[u64]) -> Result<Store<MemDisk, MemKeeper>, Fail>
+    requires { length puts.now ≤ 10 }
+    ensures size { IfOk result (λ s. s.size ≡ 4) }
+    ensures next { IfOk result (λ s. s.next ≤ 4096 * 4) }
+{
+    let rows = KeeperStart {
+        rows: Rowlist::new(alloc),
+        floor: 0,
+    };
+    let keeper = MemKeeper::new(alloc, &rows, &[])?;
+    let disk = MemDisk::new(alloc, &FileMap::new(alloc), fails)?;
+    accepted_in(alloc, disk, keeper, puts)
 }
 
 // The first bytes of the key and of the value, and the number between them.
@@ -169,6 +177,21 @@ fn the_complete_step_alone_has_a_file(rt: HostRuntime) -> Result<(), Fail> {
     let names = store.names(alloc)?;
     assert_eq!(rt; names.len(), 1);
     assert!(rt; names.get(0).is_some_and(|name| name.as_slice() == NAME));
+    Ok(())
+}
+
+#[test]
+fn a_view_sees_the_files_and_rows_of_its_opening(rt: HostRuntime) -> Result<(), Fail> {
+    let alloc = rt.alloc();
+    let mut store = accepted(alloc, &TWO_PUTS, &[])?;
+    assert_eq!(rt; store.size(), 4);
+    let early = store.open();
+    assert_eq!(rt; store.settle(alloc), Ok(()));
+    let late = store.open();
+    assert_eq!(rt; (early.next(), early.files), (6, 0));
+    assert_eq!(rt; (late.next(), late.files), (6, 1));
+    let (disk, _keeper) = store.into_parts();
+    assert_eq!(rt; disk.files().len(), 1);
     Ok(())
 }
 

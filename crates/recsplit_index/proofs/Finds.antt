@@ -15,7 +15,8 @@ use Rattle.recsplit_index.specs.declared.keys.HashedKey.{HashedKey}
 use Rattle.std.specs.List.{range_with_len}
 use Rattle.std.proofs.lemmas.List.FromFn.{get_or-map-range_with_len, length-map-range_with_len}
 use Rattle.recsplit_index.specs.Hash.{scaled, key_hash}
-use Rattle.recsplit_index.specs.Keys.{key_count, key_at, key_offset, hashed_key, hashed_keys, IsNoKey}
+use Rattle.word_file.specs.Paired.{key_count, key_at, key_offset}
+use Rattle.recsplit_index.specs.Keys.{hashed_key, hashed_keys, IsNoKey}
 use Rattle.recsplit_index.specs.Nodes.{Node, offsets_of}
 use Rattle.recsplit_index.specs.Spelling.{spelling}
 use Rattle.recsplit_index.specs.Index.{bucket_count, bucket_keys, bucket_node, nodes_from, nodes_of, starts_from, slots_of, bits_of_nodes, split_index}

@@ -1,20 +1,23 @@
 -- Lists over the keys of a word file.
-use Rattle.std.proofs.Common.{◌≡◌, ◌≢◌, ℕ, ◌+◌, ◌*◌, ◌<◌, ◌≤◌, Bool, true, cond, ◌==◌, List, [], ◌∷◌, ◌++◌, length, map, take, get_or, set, slice_set, Vec, Global, refl, sym, ap, ◌∙◌, arith, inl, inr, add-one, zero-add}
+use Rattle.std.proofs.Common.{◌≡◌, ◌≢◌, ℕ, ◌+◌, ◌*◌, ◌<◌, ◌≤◌, Bool, true, cond, ◌==◌, List, [], ◌∷◌, ◌++◌, length, map, take, get_or, set, slice_set, Vec, Global, refl, sym, ap, ◌∙◌, arith, inl, inr, add-one, zero-add, Option, Some, None, subst, ltb}
 use Rattle.std.specs.Prelude.{slice_index, slice_index_or}
 use Rattle.std.specs.List.{range_with_len}
 use Rattle.std.specs.Ordering.{nat_cmp}
 use Rattle.std.specs.Cmp.Lexicographic.{slice_cmp}
 use Rattle.std.specs.BTreeMap.{insert_entry}
 use Rattle.std.proofs.lemmas.Bool.Decides.{eqb_tells}
-use Rattle.std.proofs.lemmas.Bool.{eq-eqb, ne_eqb}
+use Rattle.std.proofs.lemmas.Bool.{eq-eqb, ne_eqb, ltb-false}
 use Rattle.std.proofs.lemmas.Grind.{get_or-set_at}
 use Rattle.std.proofs.lemmas.List.{append-nil, map-set, map-append, get_or-map, get_or-set_other, length-map, length-set, take_all}
 use Rattle.std.proofs.lemmas.List.Elements.{filter_more}
 use Rattle.std.proofs.lemmas.List.FromFn.{map-range_with_len_more, get_or-map-range_with_len, length-map-range_with_len, fill_by_all}
-use Rattle.word_file.specs.Spelling.{IsPlace}
+use Rattle.word_file.specs.Spelling.{IsPlace, offset_at, offset_of}
+use Rattle.word_file.proofs.Places.{placed}
+use Rattle.word_file.proofs.Gathers.{none_past}
 use Rattle.recsplit_index.specs.declared.keys.HashedKey.{HashedKey}
-use Rattle.recsplit_index.specs.Hash.{scaled}
-use Rattle.recsplit_index.specs.Keys.{key_count, key_at, key_offset, key_offsets, hashed_key, hashed_keys, first_by_key, by_key}
+use Rattle.recsplit_index.specs.Hash.{scaled, key_hash}
+use Rattle.word_file.specs.Paired.{IsPaired, key_count, key_at, key_offset, key_offsets}
+use Rattle.recsplit_index.specs.Keys.{hashed_key, hashed_keys, first_by_key, by_key}
 use Rattle.recsplit_index.specs.Index.{bucket_keys}
 
 -- where the key of a place stands
@@ -27,11 +30,13 @@ key_place words offsets i is lt =
 pub mapped_more : {X : Type 0} (f : ℕ → X) (out new : List X) (x : X) (i : ℕ) → out ≡ map f (range_with_len 0 i) → new ≡ out ++ x ∷ [] → x ≡ f i → new ≡ map f (range_with_len 0 (i + 1))
 mapped_more f out new x i so_far is x-is = is ∙ ap (λ l. l ++ x ∷ []) so_far ∙ ap (λ y. map f (range_with_len 0 i) ++ y ∷ []) x-is ∙ sym (map-range_with_len_more f 0 i i (zero-add i))
 
-pub hashed_all : (salt : ℕ) (words : List (List ℕ)) (offsets : List ℕ) (out : List HashedKey) (i : ℕ) → offsets ≡ key_offsets words → length offsets ≤ i → i ≤ length offsets → out ≡ map (hashed_key salt words) (range_with_len 0 i) → out ≡ hashed_keys salt words
+pub length-hashed_keys : (salt : ℕ) (words : List (List ℕ)) → length (hashed_keys salt words) ≡ key_count words
 unfolding hashed_keys
-hashed_all salt words offsets out i is ge le so_far =
-    let all : i ≡ key_count words = omega (arith, ap length is, length-map-range_with_len (key_offset words) 0 (key_count words)) in
-    so_far ∙ ap (λ (n : ℕ). map (hashed_key salt words) (range_with_len 0 n)) all
+length-hashed_keys salt words = length-map-range_with_len (hashed_key salt words) 0 (key_count words)
+
+hashed_at : (salt : ℕ) (words : List (List ℕ)) (place : ℕ) (d : HashedKey) → place < key_count words → get_or (hashed_keys salt words) place d ≡ hashed_key salt words place
+unfolding hashed_keys
+hashed_at salt words place d less = get_or-map-range_with_len (hashed_key salt words) 0 (key_count words) place place d less (zero-add place)
 
 pub keyed_none : (words : List (List ℕ)) → [] ≡ first_by_key words 0
 unfolding first_by_key
@@ -111,3 +116,38 @@ group_at buckets groups keys i g lt g-is is =
     let less : i < buckets = omega (arith, grouped_length buckets groups (bucket_keys buckets keys) is) in
     ap (λ (h : Vec HashedKey Global). h.items) g-is ∙ sym (get_or-map (λ h. h.items) groups i g [] lt) ∙ ap (λ (l : List (List HashedKey)). get_or l i []) is
     ∙ get_or-map-range_with_len (bucket_keys buckets keys) 0 buckets i i [] less (zero-add i)
+
+-- the first keys are in their groups, and the next stands there
+pub record IsGrouped (salt : ℕ) (words : List (List ℕ)) (buckets : ℕ) (groups : List (Vec HashedKey Global)) (next : Option ℕ) (place : ℕ) : Type 0 where
+  pub at_is : next ≡ offset_of words (2 * place)
+  pub within : place ≤ key_count words
+  pub grouped : lists_of groups ≡ map (bucket_keys buckets (take place (hashed_keys salt words))) (range_with_len 0 buckets)
+
+pub group_here : (salt : ℕ) (words : List (List ℕ)) (buckets : ℕ) (groups : List (Vec HashedKey Global)) (next : Option ℕ) (place offset : ℕ) → IsGrouped salt words buckets groups next place → next ≡ Some offset → IsPlace words offset (2 * place)
+group_here salt words buckets groups next place offset g e = placed (Some offset) words (2 * place) (sym e ∙ g.at_is)
+
+pub group_more : (salt : ℕ) (words : List (List ℕ)) (buckets : ℕ) (groups new : List (Vec HashedKey Global)) (next after : Option ℕ) (place offset hash b : ℕ) → IsPaired words → IsGrouped salt words buckets groups next place → next ≡ Some offset
+    → b < buckets → b ≡ scaled hash buckets → ((i : ℕ) → IsPlace words offset i → hash ≡ key_hash salt (get_or words i [])) → ((i : ℕ) → IsPlace words offset i → after ≡ offset_of words (i + 2))
+    → lists_of new ≡ slice_set (lists_of groups) b (slice_index_or (lists_of groups) b [] ++ record { hash = hash; offset = offset } ∷ []) → IsGrouped salt words buckets new after (place + 1)
+group_more salt words buckets groups new next after place offset hash b paired g e less b-is hash-is after-is put =
+    let at = group_here salt words buckets groups next place offset g e in
+    let few : place < key_count words = omega (arith, at.within, paired) in
+    let keys = hashed_keys salt words in
+    let d : HashedKey = record { hash = 0; offset = 0 } in
+    let key : HashedKey = record { hash = hash; offset = offset } in
+    let is : key ≡ get_or keys place d =
+    ap (λ (h : ℕ). record { hash = h; offset = offset }) (hash-is (2 * place) at) ∙ ap (λ (o : ℕ). record { hash = (hashed_key salt words place).hash; offset = o }) at.offset ∙ sym (hashed_at salt words place d few)
+    in
+    let twice : 2 * place + 2 ≡ 2 * (place + 1) = omega arith in
+    record {
+      at_is = after-is (2 * place) at ∙ ap (offset_of words) twice;
+      within = omega (arith, few);
+      grouped = grouped_more buckets groups new keys place b d (omega (arith, few, length-hashed_keys salt words)) less (b-is ∙ ap (λ (k : HashedKey). scaled k.hash buckets) is) g.grouped
+          (subst (λ (k : HashedKey). lists_of new ≡ slice_set (lists_of groups) b (slice_index_or (lists_of groups) b [] ++ k ∷ [])) is put);
+    }
+
+pub group_all : (salt : ℕ) (words : List (List ℕ)) (buckets : ℕ) (groups : List (Vec HashedKey Global)) (next : Option ℕ) (place : ℕ) → IsPaired words → IsGrouped salt words buckets groups next place → next ≡ None
+    → lists_of groups ≡ map (bucket_keys buckets (hashed_keys salt words)) (range_with_len 0 buckets)
+group_all salt words buckets groups next place paired g e =
+    let ended = none_past (ltb (2 * place) (length words)) (offset_at words (2 * place)) (sym e ∙ g.at_is) in
+    grouped_all buckets groups (hashed_keys salt words) place (omega (arith, ltb-false _ _ ended, paired, length-hashed_keys salt words)) g.grouped

@@ -4,7 +4,7 @@ use Rattle.std.specs.List.{flat_map}
 use Rattle.std.specs.Int.{w64, to_be_bytes, from_be_bytes}
 use Rattle.std.proofs.lemmas.List.{append-nil, length-append, drop_at, drop-drop}
 use Rattle.std.proofs.lemmas.List.Concat.{flat_map-append}
-use Rattle.word_file.proofs.Numbers.{wide64}
+use Rattle.file_numbers.proofs.Numbers.{wide64}
 use Rattle.bit_store.specs.Bits.{bits_of, text_of}
 use Rattle.recsplit_index.specs.Spelling.{Index, number_bytes, laid_out, numbers_at, index_in, AreNumbers, IsSpelled, IsHeld}
 
@@ -44,9 +44,9 @@ pub numbers_none : (front : List ℕ) → front ≡ front ++ number_bytes []
 unfolding number_bytes
 numbers_none front = sym (append-nil front)
 
-pub are_numbers : (numbers : List ℕ) → ((i : ℕ) → get_or numbers i 0 < 2 ^ 64) → AreNumbers numbers
-are_numbers [] fits = tt
-are_numbers (x ∷ xs) fits = (fits 0, are_numbers xs (λ i. fits (suc i)))
+pub are_numbers_within : (numbers : List ℕ) → ((i : ℕ) → i < length numbers → get_or numbers i 0 < 2 ^ 64) → AreNumbers numbers
+are_numbers_within [] fits = tt
+are_numbers_within (x ∷ xs) fits = (fits 0 (omega arith), are_numbers_within xs (λ i lt. fits (suc i) (omega arith)))
 
 both_numbers : (xs ys : List ℕ) → AreNumbers xs → AreNumbers ys → AreNumbers (xs ++ ys)
 both_numbers [] ys one other = other

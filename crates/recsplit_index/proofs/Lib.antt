@@ -2,7 +2,6 @@ pub mod Hashes
 pub mod FirstSeeds
 pub mod Leaves
 pub mod Placements
-pub mod Gathers
 pub mod KeyLists
 pub mod Buildings
 pub mod Layouts
@@ -14,4 +13,5 @@ pub mod Walkings
 pub mod Sortings
 pub mod Finds
 pub mod Plains
-pub mod Ascents
+pub mod Followings
+pub mod Layings

@@ -9,11 +9,13 @@ use Rattle.std.specs.declared.cmp.Ordering.{Ordering}
 use Rattle.std.specs.declared.cmp.Ordering.TheVariants.{Less, Equal, Greater}
 use Rattle.std.specs.BTreeMap.{insert_entry}
 use Rattle.std.proofs.lemmas.Map.Lookups.{exact_bytes}
-use Rattle.std.proofs.lemmas.Bool.{cases_lt, cases_order}
+use Rattle.std.proofs.lemmas.Bool.{cases_lt}
 use Rattle.std.proofs.lemmas.Grind.{pow_more}
 use Rattle.std.proofs.lemmas.List.{get_or-map}
 use Rattle.std.proofs.Math.Nat.{mul-le-mul_right, pow-le-pow_right}
-use Rattle.recsplit_index.specs.Keys.{key_count, key_at, key_offset, first_by_key, by_key, IsKeyAt, IsNoKey, KeysAscend, KeysDiffer}
+use Rattle.word_file.specs.Paired.{key_count, key_at, key_offset}
+use Rattle.recsplit_index.specs.Keys.{first_by_key, by_key, IsKeyAt, IsNoKey}
+use Rattle.word_file.proofs.Ascents.{not_equal, self_less, self_greater}
 use Rattle.recsplit_index.proofs.Every.{all_weaker, all_at}
 
 -- each entry's key is below those after it
@@ -211,18 +213,6 @@ goes_down words key low high middle before now after lt is step greater h = reco
   few = halved (high - low) (middle - low) h.probes (length (by_key words)) (omega arith) h.few;
 }
 
-not_equal : (k q : List ℕ) (r : Ordering) → slice_cmp nat_cmp k q ≡ r → k ≡ q → slice_cmp nat_cmp q q ≡ r
-not_equal k q r is same = ap (λ (x : List ℕ). slice_cmp nat_cmp x q) (sym same) ∙ is
-
-apart : Less ≡ Greater → ⊥
-apart e = cc
-
-self_less : (q : List ℕ) → slice_cmp nat_cmp q q ≡ Less → ⊥
-self_less q is = let other : slice_cmp nat_cmp q q ≡ Greater = flipped q q Less is in apart (sym is ∙ other)
-
-self_greater : (q : List ℕ) → slice_cmp nat_cmp q q ≡ Greater → ⊥
-self_greater q is = let other : slice_cmp nat_cmp q q ≡ Less = flipped q q Greater is in apart (sym other ∙ is)
-
 -- none is left
 pub halving_all : (words : List (List ℕ)) (key : List ℕ) (low high before now : ℕ) → high ≤ low → IsHalving words key low high before now → IsNoKey words key
 halving_all words key low high before now all h = λ place within is.
@@ -277,12 +267,3 @@ pub same_to : (a b : List ℕ) (o : Ordering) (r : Bool) → o ≡ slice_cmp nat
 same_to a b o r o-is r-is same =
     let self : o ≡ slice_cmp nat_cmp b b = o-is ∙ ap (λ (x : List ℕ). slice_cmp nat_cmp x b) same in
     r-is ∙ ap is_eq (self_equal b o (sym self))
-
--- keys that ascend differ
-pub ascending_differ : (words : List (List ℕ)) → KeysAscend words → KeysDiffer words
-ascending_differ words up p q lt less same =
-    elim (cases_order p q) [
-      | inl equal ↦ equal
-      | inr (inl below) ↦ absurd (self_less (key_at words q) (not_equal (key_at words p) (key_at words q) Less (up p q below less) same))
-      | inr (inr above) ↦ absurd (self_less (key_at words p) (not_equal (key_at words q) (key_at words p) Less (up q p above lt) (sym same)))
-    ]

@@ -4,3 +4,4 @@ pub mod Nodes
 pub mod Spelling
 pub mod Index
 pub mod Walks
+pub mod Layout

@@ -1,11 +1,15 @@
 ghost use Rattle.std.specs.Prelude.{◌≡◌, ◌∷◌, [], ◌++◌, ◌<◌, ◌≤◌, ◌^◌, length, IfOk, OnOk};
+ghost use Rattle.word_file.specs.Paired.{IsPaired};
+ghost use Rattle.recsplit_index.specs.Keys.{hashed_keys};
 ghost use Rattle.recsplit_index.specs.Index.{bucket_count, nodes_of, HoldsAll};
 
-use crate::keys::{HashedKey, groups_of};
+use crate::keys::groups_of;
 use crate::nodes::{Parts, put_node};
-use agg_outside::Memory;
+use agg_outside::{Memory, Steps};
 use bit_store::RiceWriter;
 use std::alloc::Global;
+use std::sync::ledger::Ledger;
+use word_file::WordFile;
 
 /// All nodes as they are written, with what stands before each bucket.
 #[derive(Debug, Drop)]
@@ -31,21 +35,28 @@ fn put_start(parts: &Parts, starts: &mut Vec<u64>) -> Result<(), Memory>
     Ok(())
 }
 
-/// The nodes of all buckets, unless a node has no seed below the limit.
-pub(crate) fn nodes_of(
+/// The nodes of all buckets under a salt, unless a node has no seed below the limit.
+pub(crate) fn nodes_of<L: Ledger>(
     alloc: Global,
-    keys: &[HashedKey],
+    salt: u64,
+    words: &WordFile,
     tries: u32,
+    steps: &mut Steps<L>,
 ) -> Result<Option<Built>, Memory>
-    requires { tries ≤ 2 ^ 16 }
-    ensures { IfOk result (λ built. HoldsAll built (nodes_of tries keys.now)) }
+    requires paired { IsPaired words.now.words }
+    requires tries { tries ≤ 2 ^ 16 }
+    ensures { IfOk result (λ built. HoldsAll built (nodes_of tries (hashed_keys salt words.now.words))) }
 {
-    let buckets = bucket_count(keys.len() as u64);
-    let groups = groups_of(alloc, keys, buckets)?;
-    let mut starts = Vec::new(alloc);
+    let count = words.count() / 2;
+    let buckets = bucket_count(count);
+    let groups = groups_of(alloc, salt, words, buckets, steps)?;
+    let mut starts = Vec::with_capacity(
+        alloc,
+        buckets.saturating_mul(2).saturating_add(2) as usize,
+    )?;
     let mut parts = Parts {
         codes: RiceWriter::new(alloc),
-        offsets: Vec::new(alloc),
+        offsets: Vec::with_capacity(alloc, count as usize)?,
     };
     for group in &groups {
         put_start(&parts, &mut starts)?;

@@ -1,23 +1,22 @@
 ghost use Rattle.std.specs.Prelude.{◌≡◌, ℕ, ◌+◌, ◌*◌, ◌<◌, ◌≤◌, ◌^◌, [], length, map, IfOk, OnOk, IfErr, IfSome, IfNone, Err, Some};
-ghost use Rattle.recsplit_index.specs.Keys.{IsPaired, KeysDiffer, key_count, key_offsets, IsKeyAt, IsNoKey};
-ghost use Rattle.recsplit_index.specs.Spelling.{spelling};
-ghost use Rattle.recsplit_index.specs.Index.{plain_index, index_of, IsIndexOf};
+ghost use Rattle.word_file.specs.Paired.{IsPaired, KeysDiffer, key_count};
+ghost use Rattle.recsplit_index.specs.Keys.{IsKeyAt, IsNoKey};
+ghost use Rattle.recsplit_index.specs.Spelling.{Index, spelling};
+ghost use Rattle.recsplit_index.specs.Layout.{IsLayoutOf};
+ghost use Rattle.recsplit_index.specs.Index.{index_of, IsIndexOf};
 ghost use Rattle.word_file.specs.Difference.{first_difference};
 ghost use Rattle.word_file.specs.declared.access.AccessError.TheVariants.{Differs, Memory as NoMemory};
 
-use crate::buckets::{Built, nodes_of};
+use crate::compare::difference;
 use crate::find::{find_sorted, is_key, offset_of};
 use crate::hash::key_hash;
-use crate::keys::{by_key, hashed_keys, offsets_of};
-use crate::nodes::Parts;
+use crate::layout::{Layout, layout_of};
 use crate::spell::lay_out;
 use agg_outside::{Bytes, Memory, Steps};
-use bit_store::RiceWriter;
 use std::alloc::Global;
-use std::collections::BTreeMap;
 use std::marker::{Brand, Model};
 use std::sync::ledger::{Blank, Ledger};
-use word_file::{AccessError, WordFile, first_difference};
+use word_file::{AccessError, WordFile};
 
 /// The hash accessor of a word file.
 #[derive(Debug, Drop)]
@@ -40,80 +39,19 @@ impl Model for HashIndex {
     ghost invariant = { λ x. IsHeld x.form x.salt x.starts x.count x.bits x.bytes };
 }
 
-fn hold(
-    alloc: Global,
-    form: u8,
-    salt: u8,
-    starts: &[u64],
-    offsets: &[u64],
-    codes: RiceWriter,
-) -> Result<HashIndex, Memory>
-    ensures { IfOk result (λ x. x ≡ record { form = form; salt = salt; starts = starts.now; offsets = offsets.now; bits = codes }) }
+/// The accessor that these bytes are.
+fn hold(layout: &Layout, bytes: Bytes) -> HashIndex
+    requires { (x : Index) × IsLayoutOf layout.now x × (bytes ≡ spelling x) }
+    ensures { (x : Index) → IsLayoutOf layout.now x → bytes ≡ spelling x → result ≡ x }
 {
-    let bits = codes.len();
-    let text = codes.finish();
-    let bytes = lay_out(alloc, form, salt, starts, offsets, text.as_slice())?;
-    Ok(HashIndex {
-        form,
-        salt,
-        starts: starts.len() as u64,
-        count: offsets.len() as u64,
-        bits,
-        bytes: Bytes::from_vec(bytes),
-    })
-}
-
-fn offsets_in(alloc: Global, tree: &BTreeMap<Bytes, u64>) -> Result<Vec<u64>, Memory>
-    ensures { IfOk result (λ v. v.items ≡ map (λ entry. entry.1) tree.now.entries) }
-{
-    Ok(tree.values().copied().collect(alloc)?)
-}
-
-/// The accessor with the offsets in the order of their keys.
-fn plain<L: Ledger>(
-    alloc: Global,
-    words: &WordFile,
-    offsets: &[u64],
-    steps: &mut Steps<L>,
-) -> Result<HashIndex, Memory>
-    requires { offsets.now ≡ key_offsets words.now.words }
-    ensures { IfOk result (λ x. x ≡ plain_index words.now.words) }
-{
-    let tree = by_key(alloc, words, offsets, steps)?;
-    let sorted = offsets_in(alloc, &tree)?;
-    hold(alloc, 0, 0, &[], sorted.as_slice(), RiceWriter::new(alloc))
-}
-
-fn build<L: Ledger>(
-    alloc: Global,
-    words: &WordFile,
-    tries: u32,
-    blank: Blank,
-) -> Result<HashIndex, Memory>
-    requires name { blank.name ≡ L.name }
-    requires parts { blank.parts ≡ L.parts }
-    requires some { 0 < L.parts }
-    requires paired { IsPaired words.now.words }
-    requires tries { tries ≤ 2 ^ 16 }
-    ensures { IfOk result (λ x. x ≡ index_of tries words.now.words) }
-{
-    let mut steps = Steps::<L>::of(blank);
-    let offsets = offsets_of(alloc, words)?;
-    for salt in 0..8u8 {
-        let keys = hashed_keys(
-            alloc,
-            u64::from(salt),
-            words,
-            offsets.as_slice(),
-            &mut steps,
-        )?;
-        if let Some(built) = nodes_of(alloc, keys.as_slice(), tries)? {
-            let Built { starts, parts } = built;
-            let Parts { codes, offsets } = parts;
-            return hold(alloc, 1, salt, starts.as_slice(), offsets.as_slice(), codes);
-        }
+    HashIndex {
+        form: layout.form,
+        salt: layout.salt,
+        starts: layout.starts.len() as u64,
+        count: layout.offsets.len() as u64,
+        bits: layout.bits,
+        bytes,
     }
-    plain(alloc, words, offsets.as_slice(), &mut steps)
 }
 
 impl HashIndex {
@@ -125,7 +63,16 @@ impl HashIndex {
         requires tries { tries ≤ 2 ^ 16 }
         ensures { IfOk result (λ x. x ≡ index_of tries words.now.words) }
     {
-        build::<Brand>(alloc, words, tries, Blank::new(1))
+        let layout = layout_of::<Brand>(alloc, words, tries, Blank::new(1))?;
+        let bytes = lay_out(
+            alloc,
+            layout.form,
+            layout.salt,
+            layout.starts.as_slice(),
+            layout.offsets.as_slice(),
+            layout.text.as_slice(),
+        )?;
+        Ok(hold(&layout, Bytes::from_vec(bytes)))
     }
 
     /// The bytes as the accessor of the word file, where they are what `build` gives.
@@ -146,9 +93,9 @@ impl HashIndex {
         // Where the bytes differ first.
         ensures exact { (at : ℕ) → result ≡ Err (Differs at) → first_difference bytes (spelling (index_of tries words.now.words)) ≡ Some at }
     {
-        let built = HashIndex::build(alloc, words, tries)?;
-        match first_difference(bytes.as_slice(), built.bytes()) {
-            None => Ok(built),
+        let layout = layout_of::<Brand>(alloc, words, tries, Blank::new(1))?;
+        match difference(bytes.as_slice(), &layout) {
+            None => Ok(hold(&layout, bytes)),
             Some(at) => Err(AccessError::Differs { at: at as u64 }),
         }
     }

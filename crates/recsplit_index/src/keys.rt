@@ -3,9 +3,10 @@ ghost use Rattle.std.specs.List.{range_with_len};
 ghost use Rattle.std.specs.Ordering.{nat_cmp};
 ghost use Rattle.std.specs.Cmp.Lexicographic.{slice_cmp};
 ghost use Rattle.std.specs.BTreeMap.{insert_entry};
-ghost use Rattle.word_file.specs.Spelling.{StartsAt, IsPlace, offset_of};
+ghost use Rattle.word_file.specs.Spelling.{StartsAt, IsPlace};
 ghost use Rattle.recsplit_index.specs.Hash.{key_hash};
-ghost use Rattle.recsplit_index.specs.Keys.{IsPaired, key_offsets, hashed_keys, by_key};
+ghost use Rattle.word_file.specs.Paired.{IsPaired, key_count, key_offsets};
+ghost use Rattle.recsplit_index.specs.Keys.{hashed_keys, by_key};
 ghost use Rattle.recsplit_index.specs.Index.{bucket_keys};
 
 use crate::hash::{key_hash, scale};
@@ -13,7 +14,7 @@ use agg_outside::{Bytes, Memory, Steps};
 use std::alloc::Global;
 use std::collections::BTreeMap;
 use std::sync::ledger::Ledger;
-use word_file::WordFile;
+use word_file::{WordFile, key_after};
 
 /// A key's hash under a salt, and the offset of its word.
 #[derive(Clone, Copy, Debug, PartialEq, Eq)]
@@ -22,59 +23,12 @@ pub(crate) struct HashedKey {
     pub(crate) offset: u64,
 }
 
-/// The offset of the key after the one at `at`.
-pub(crate) fn key_after(words: &WordFile, at: u64) -> Option<u64>
-    requires { StartsAt words.now.words at }
-    ensures { (i : ℕ) → IsPlace words.now.words at i → result ≡ offset_of words.now.words (i + 2) }
-{
-    match words.next(at) {
-        Some(value) => words.next(value),
-        None => None,
-    }
-}
-
-/// The offsets of all keys in order.
-pub(crate) fn offsets_of(alloc: Global, words: &WordFile) -> Result<Vec<u64>, Memory>
-    requires { IsPaired words.now.words }
-    ensures { IfOk result (λ v. v.items ≡ key_offsets words.now.words) }
-{
-    let mut out = Vec::new(alloc);
-    let mut next = words.first();
-    while let Some(key) = next {
-        out.push(key)?;
-        next = key_after(words, key);
-    }
-    Ok(out)
-}
-
 /// The hash of the key at this offset.
 fn hash_at<L: Ledger>(salt: u64, words: &WordFile, at: u64, steps: &mut Steps<L>) -> u64
     requires { StartsAt words.now.words at }
     ensures { (i : ℕ) → IsPlace words.now.words at i → result ≡ key_hash salt (slice_index_or words.now.words i []) }
 {
     key_hash(salt, words.word_at(at, steps))
-}
-
-/// Each key's hash under the salt, with its offset.
-pub(crate) fn hashed_keys<L: Ledger>(
-    alloc: Global,
-    salt: u64,
-    words: &WordFile,
-    offsets: &[u64],
-    steps: &mut Steps<L>,
-) -> Result<Vec<HashedKey>, Memory>
-    requires { offsets.now ≡ key_offsets words.now.words }
-    ensures { IfOk result (λ v. v.items ≡ hashed_keys salt words.now.words) }
-{
-    let mut out = Vec::with_capacity(alloc, offsets.len())?;
-    for offset in offsets {
-        let hash = hash_at(salt, words, *offset, steps);
-        out.push(HashedKey {
-            hash,
-            offset: *offset,
-        })?;
-    }
-    Ok(out)
 }
 
 fn put_key<L: Ledger>(
@@ -120,22 +74,68 @@ fn put_in_group(groups: &mut Vec<Vec<HashedKey>>, at: usize, key: HashedKey) -> 
     Ok(())
 }
 
-/// The keys of each bucket, in their order.
-pub(crate) fn groups_of(
+/// How many keys each bucket has, so that each list of keys is made in one piece.
+fn sizes_of<L: Ledger>(
     alloc: Global,
-    keys: &[HashedKey],
+    salt: u64,
+    words: &WordFile,
     buckets: u64,
-) -> Result<Vec<Vec<HashedKey>>, Memory>
-    requires { 0 < length keys.now → 0 < buckets }
-    ensures { IfOk result (λ v. map (λ g. g.items) v.items ≡ map (bucket_keys buckets keys.now) (range_with_len 0 buckets)) }
-{
-    let mut groups = Vec::new(alloc);
+    steps: &mut Steps<L>,
+) -> Result<Vec<u64>, Memory> {
+    let mut sizes = Vec::with_capacity(alloc, buckets as usize)?;
     for _ in 0..buckets {
-        groups.push(Vec::new(alloc))?;
+        sizes.push(0u64)?;
     }
-    for key in keys {
-        let bucket = scale(key.hash, buckets) as usize;
-        put_in_group(&mut groups, bucket, *key)?;
+    let mut next = words.first();
+    for _passed in 0..words.count() / 2 {
+        if let Some(key) = next {
+            let bucket = scale(hash_at(salt, words, key, steps), buckets) as usize;
+            if let Some(size) = sizes.get_mut(bucket) {
+                *size = size.saturating_add(1);
+            }
+            next = key_after(words, key);
+        }
+    }
+    Ok(sizes)
+}
+
+/// A list for each bucket, with room for its keys.
+fn empty_groups(alloc: Global, sizes: &[u64], buckets: u64) -> Result<Vec<Vec<HashedKey>>, Memory>
+    ensures { IfOk result (λ v. map (λ g. g.items) v.items ≡ map (bucket_keys buckets []) (range_with_len 0 buckets)) }
+{
+    let mut groups = Vec::with_capacity(alloc, buckets as usize)?;
+    for bucket in 0..buckets {
+        let size = sizes.get(bucket as usize).copied().unwrap_or(0);
+        let group = Vec::with_capacity(alloc, size as usize)?;
+        groups.push(group)?;
+    }
+    Ok(groups)
+}
+
+/// The keys of each bucket, in their order. Each key is hashed twice, and is held once.
+pub(crate) fn groups_of<L: Ledger>(
+    alloc: Global,
+    salt: u64,
+    words: &WordFile,
+    buckets: u64,
+    steps: &mut Steps<L>,
+) -> Result<Vec<Vec<HashedKey>>, Memory>
+    requires paired { IsPaired words.now.words }
+    requires some { 0 < key_count words.now.words → 0 < buckets }
+    ensures { IfOk result (λ v. map (λ g. g.items) v.items ≡ map (bucket_keys buckets (hashed_keys salt words.now.words)) (range_with_len 0 buckets)) }
+{
+    let sizes = sizes_of(alloc, salt, words, buckets, steps)?;
+    let mut groups = empty_groups(alloc, sizes.as_slice(), buckets)?;
+    // That there are fewer than 2^64 words comes with their number.
+    let _count = words.count();
+    let mut place = 0u64;
+    let mut next = words.first();
+    while let Some(offset) = next {
+        let hash = hash_at(salt, words, offset, steps);
+        let bucket = scale(hash, buckets) as usize;
+        put_in_group(&mut groups, bucket, HashedKey { hash, offset })?;
+        next = key_after(words, offset);
+        place += 1;
     }
     Ok(groups)
 }

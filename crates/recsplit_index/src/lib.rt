@@ -2,17 +2,22 @@
 #![tactic(auto)]
 
 mod buckets;
+mod compare;
 mod file;
 mod find;
 mod hash;
 mod keys;
+mod layout;
 mod nodes;
 mod seeds;
+mod shared;
 mod spell;
 mod walk;
 
 pub use file::HashIndex;
 pub use hash::key_hash;
+pub use shared::shares_hash_index;
+pub use word_file::AccessError;
 
 #[cfg(test)]
 mod tests;

@@ -1,18 +1,15 @@
-ghost use Rattle.std.specs.Prelude.{◌≡◌, ℕ, ◌*◌, ◌<◌, ◌≤◌, ◌^◌, [], slice_index_or, IsTrue, IfSome};
-ghost use Rattle.std.specs.Option.{ForSome};
-ghost use Rattle.word_file.specs.Spelling.{StartsAt, IsPlace};
-ghost use Rattle.recsplit_index.specs.Keys.{IsPaired, IsBelow, KeysAscend, KeysDiffer};
+ghost use Rattle.std.specs.Prelude.{◌≡◌, ◌<◌, ◌≤◌, ◌^◌, IsTrue};
+ghost use Rattle.word_file.specs.Paired.{IsPaired, KeysDiffer};
 ghost use Rattle.recsplit_index.specs.Index.{index_of};
 
 use super::*;
-use crate::keys::key_after;
 use agg_outside::{Bytes, Steps};
 use std::alloc::Global;
 use std::marker::Brand;
 use std::process::Abort;
 use std::sync::ledger::{Blank, Ledger};
 use std::test::Fail;
-use word_file::{AccessError, Tag, WordFile, WordWriter};
+use word_file::{Tag, WordFile, WordWriter, is_paired, keys_ascend};
 
 fn writer(alloc: Global) -> Result<WordWriter, Fail> {
     let tag = Tag {
@@ -37,46 +34,6 @@ fn odd_keys(alloc: Global, count: u16) -> Result<WordFile, Fail> {
     Ok(writer.finish())
 }
 
-fn is_less<L: Ledger>(words: &WordFile, key: u64, next: u64, steps: &mut Steps<L>) -> bool
-    requires key { StartsAt words.now.words key }
-    requires next { StartsAt words.now.words next }
-    ensures { IsTrue result → (i j : ℕ) → IsPlace words.now.words key i → IsPlace words.now.words next j → IsBelow (slice_index_or words.now.words i []) (slice_index_or words.now.words j []) }
-{
-    let one = words.word_at(key, steps);
-    let other = words.word_at(next, steps);
-    one.cmp(&other).is_lt()
-}
-
-fn goes_up<L: Ledger>(words: &WordFile, key: u64, next: Option<u64>, steps: &mut Steps<L>) -> bool
-    requires key { StartsAt words.now.words key }
-    requires next { ForSome next (λ after. StartsAt words.now.words after) }
-    ensures { IsTrue result → IfSome next (λ after. (i j : ℕ) → IsPlace words.now.words key i → IsPlace words.now.words after j → IsBelow (slice_index_or words.now.words i []) (slice_index_or words.now.words j [])) }
-{
-    match next {
-        None => true,
-        Some(after) => is_less(words, key, after, steps),
-    }
-}
-
-fn keys_ascend<L: Ledger>(words: &WordFile, steps: &mut Steps<L>) -> bool
-    requires { IsPaired words.now.words }
-    ensures { IsTrue result → KeysAscend words.now.words }
-{
-    // That there are fewer than 2^64 words comes with their number.
-    let _count = words.count();
-    let mut last = words.first();
-    let mut place = 0u64;
-    while let Some(key) = last {
-        let next = key_after(words, key);
-        if !goes_up(words, key, next, steps) {
-            return false;
-        }
-        last = next;
-        place += 1;
-    }
-    true
-}
-
 fn keys_differ<L: Ledger>(words: &WordFile, blank: Blank) -> bool
     requires name { blank.name ≡ L.name }
     requires parts { blank.parts ≡ L.parts }
@@ -86,12 +43,6 @@ fn keys_differ<L: Ledger>(words: &WordFile, blank: Blank) -> bool
 {
     let mut steps = Steps::<L>::of(blank);
     keys_ascend(words, &mut steps)
-}
-
-fn is_paired(words: &WordFile) -> bool
-    ensures { IsTrue result → IsPaired words.now.words }
-{
-    words.count() / 2 * 2 == words.count()
 }
 
 fn find<L: Ledger>(
@@ -165,6 +116,13 @@ fn a_hash_is_that_of_split_mix(rt: HostRuntime) {
     assert_eq!(rt; key_hash(1, b""), 0xe220_a839_7b1d_cdaf);
 }
 
+#[test]
+fn a_hash_takes_each_piece_in(rt: HostRuntime) {
+    assert_eq!(rt; key_hash(0, &[0xaa]), 0xd7a4_a05b_13d3_6841);
+    assert_eq!(rt; key_hash(0, &[0xbb]), 0xb52e_02f1_cebf_4dc9);
+    assert_eq!(rt; key_hash(3, b"abcdefghi"), 0x9657_053c_be7d_8c0b);
+}
+
 /// The accessor of the key `aa` and, where there are two, of `bb` behind it.
 fn of_few(alloc: Global, count: u16, tries: u32) -> Result<Bytes, Fail>
     requires { tries ≤ 2 ^ 16 }
@@ -186,18 +144,50 @@ fn of_few(alloc: Global, count: u16, tries: u32) -> Result<Bytes, Fail>
     Ok(Bytes::of(alloc, index.bytes())?)
 }
 
+/// A text of form 1 and salt 0 over so many keys: its table and its offsets, and its bits.
+fn text_of(alloc: Global, count: u64, numbers: &[u64], bits: &[u8]) -> Result<Vec<u8>, Fail> {
+    let mut out = Vec::from_slice(alloc, b"AGH1\x01\0\0\0".as_slice())?;
+    out.extend_from_slice(&count.to_be_bytes())?;
+    for number in numbers {
+        out.extend_from_slice(&number.to_be_bytes())?;
+    }
+    out.extend_from_slice(bits)?;
+    Ok(out)
+}
+
 #[test]
 fn few_keys_are_spelled_plainly(rt: HostRuntime) -> Result<(), Fail> {
     let none = of_few(rt.alloc(), 0, 65_536)?;
-    let text = b"AGH1\x01\0\0\0\0\0\0\0\0\0\0\0\0\0\0\0\0\0\0\0\0\0\0\0\0\0\0\0";
+    let text = text_of(rt.alloc(), 0, &[0, 0], &[])?;
     assert!(rt; none.as_slice() == text.as_slice());
     let one = of_few(rt.alloc(), 1, 65_536)?;
-    let text =
-        b"AGH1\x01\0\0\0\0\0\0\0\0\0\0\x01\0\0\0\0\0\0\0\0\0\0\0\0\0\0\0\0\0\0\0\0\0\0\0\x01\0\0\0\0\0\0\0\0\0\0\0\0\0\0\0\x28";
+    let text = text_of(rt.alloc(), 1, &[0, 0, 1, 0, 0x28], &[])?;
     assert!(rt; one.as_slice() == text.as_slice());
-    let two = of_few(rt.alloc(), 2, 0)?;
-    let text = b"AGH1\0\0\0\0\0\0\0\0\0\0\0\x02\0\0\0\0\0\0\0\x28\0\0\0\0\0\0\0\x32";
+    Ok(())
+}
+
+#[test]
+fn two_keys_are_told_apart_by_a_seed(rt: HostRuntime) -> Result<(), Fail> {
+    let two = of_few(rt.alloc(), 2, 65_536)?;
+    let text = text_of(rt.alloc(), 2, &[0, 0, 2, 1, 0x28, 0x32], &[1])?;
     assert!(rt; two.as_slice() == text.as_slice());
+    let plain = of_few(rt.alloc(), 2, 0)?;
+    let text = b"AGH1\0\0\0\0\0\0\0\0\0\0\0\x02\0\0\0\0\0\0\0\x28\0\0\0\0\0\0\0\x32";
+    assert!(rt; plain.as_slice() == text.as_slice());
+    Ok(())
+}
+
+#[test]
+fn nine_keys_are_split(rt: HostRuntime) -> Result<(), Fail> {
+    let words = odd_keys(rt.alloc(), 9)?;
+    assert!(rt; is_paired(&words));
+    assert!(rt; keys_differ::<Brand>(&words, Blank::new(1)));
+    let index = HashIndex::build(rt.alloc(), &words, 65_536)?;
+    let numbers = [
+        0, 0, 9, 12, 0x28, 0x46, 0x50, 0x3c, 0x32, 0x64, 0x5a, 0x78, 0x6e,
+    ];
+    let text = text_of(rt.alloc(), 9, &numbers, &[0x9b, 0x0d])?;
+    assert!(rt; index.bytes() == text.as_slice());
     Ok(())
 }
 

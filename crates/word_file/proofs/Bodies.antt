@@ -6,7 +6,7 @@ use Rattle.std.proofs.lemmas.List.{append-nil, length-append, length-drop, take_
 use Rattle.std.proofs.lemmas.List.Concat.{flat_map-append}
 use Rattle.word_file.specs.Spelling.{word_bytes, body, AreShort, end_of, offset_at, IsPlace}
 use Rattle.word_file.specs.Reading.{Cut, cut, whole_words, words_in, with_word, has_word, said_length}
-use Rattle.word_file.proofs.Numbers.{AreBytes, AreBytes-drop, wide32, number_takes}
+use Rattle.file_numbers.proofs.Numbers.{AreBytes, AreBytes-drop, wide32, number_takes}
 
 -- ---- lengths
 

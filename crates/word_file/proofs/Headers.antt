@@ -8,7 +8,7 @@ use Rattle.word_file.specs.declared.error.WordError.{WordError}
 use Rattle.word_file.specs.declared.error.WordError.TheVariants.{Short, Magic, Count}
 use Rattle.word_file.specs.Spelling.{TaggedWords, Fits, IsTag, header, body, spelling, end_of}
 use Rattle.word_file.specs.Reading.{Cut, tag_in, count_in, whole_words, words_in, counted, agreed, checked_count, tagged, file_in, checked, IsHeld}
-use Rattle.word_file.proofs.Numbers.{AreBytes, AreBytes-drop, wide16, wide32, wide64, number_takes}
+use Rattle.file_numbers.proofs.Numbers.{AreBytes, AreBytes-drop, wide16, wide32, wide64, number_takes}
 use Rattle.word_file.proofs.Bodies.{whole_words_are, whole_words_parts, words_in_are, no_word-nil}
 
 -- ---- the header

@@ -1,7 +1,9 @@
-pub mod Numbers
 pub mod Bodies
 pub mod Walks
 pub mod Headers
 pub mod Places
 pub mod Growth
 pub mod Differences
+pub mod Gathers
+pub mod Ascents
+pub mod Agreements

@@ -5,7 +5,7 @@ use Rattle.std.proofs.lemmas.List.{length-drop, drop-drop, drop_all, length_push
 use Rattle.word_file.specs.declared.error.WordError.TheVariants.{Short}
 use Rattle.word_file.specs.Spelling.{body, AreShort, end_of}
 use Rattle.word_file.specs.Reading.{whole_words, counted, has_word, said_length}
-use Rattle.word_file.proofs.Numbers.{AreBytes, AreBytes-drop}
+use Rattle.file_numbers.proofs.Numbers.{AreBytes, AreBytes-drop}
 use Rattle.word_file.proofs.Bodies.{body_push, body-nil, end_of_push, whole_words_are, no_word-nil, first_word}
 
 -- the words from the header to here

@@ -1,6 +1,7 @@
-ghost use Rattle.std.specs.Prelude.{◌≡◌, ◌↔◌, IsNone, IfSome};
+ghost use Rattle.std.specs.Prelude.{◌≡◌, ◌↔◌, ◌≤◌, length, IsNone, IfSome, IfOk, IfErr};
 ghost use Rattle.word_file.specs.declared.access.AccessError.TheVariants.{Memory as NoMemory};
 ghost use Rattle.word_file.specs.Difference.{first_difference, IsDifference};
+ghost use Rattle.word_file.specs.Agreement.{GoesOn, PartsAt};
 
 use agg_outside::Memory;
 
@@ -45,5 +46,20 @@ fn difference_from(one: &[u8], other: &[u8]) -> Option<usize>
         None
     } else {
         Some(shorter)
+    }
+}
+
+/// Follows a text through the bytes from `at` on: `Ok` is where the text ends, if the bytes go on with it,
+/// and `Err` where they first don't.
+pub fn follow(bytes: &[u8], at: usize, text: &[u8]) -> Result<usize, usize>
+    requires { at ≤ length bytes.now }
+    ensures end { IfOk result (λ end. GoesOn bytes.now text.now at end) }
+    ensures place { IfErr result (λ place. PartsAt bytes.now text.now at place) }
+{
+    let rest = &bytes[at..];
+    let here = &rest[..rest.len().min(text.len())];
+    match first_difference(here, text) {
+        None => Ok(at + text.len()),
+        Some(place) => Err(at + place),
     }
 }

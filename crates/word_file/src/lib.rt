@@ -4,13 +4,17 @@
 mod access;
 mod error;
 mod file;
+mod paired;
 mod read;
+mod shared;
 mod tag;
 mod writer;
 
-pub use access::{AccessError, first_difference};
+pub use access::{AccessError, first_difference, follow};
 pub use error::WordError;
 pub use file::WordFile;
+pub use paired::{is_paired, key_after, key_offsets, keys_ascend};
+pub use shared::shares_words;
 pub use tag::Tag;
 pub use writer::WordWriter;
 

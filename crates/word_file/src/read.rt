@@ -1,45 +1,15 @@
 ghost use Rattle.std.specs.Prelude.{◌≡◌, ◌+◌, ◌≤◌, ◌<◌, length, drop, take, Some, None, IfOk, if◌then◌else◌};
-ghost use Rattle.std.specs.Int.{w16, w32, w64, from_be_bytes};
 ghost use Rattle.word_file.specs.Reading.{has_word, said_length, counted, whole_words, tag_in, checked_count, IsHeld};
 
 use crate::error::WordError;
 use crate::tag::Tag;
+use file_numbers::{u16_at, u32_at, u64_at};
 
 /// The bytes before the words.
 pub(crate) const HEADER: usize = 40;
 
 /// `AGW1`.
 pub(crate) const MAGIC: u32 = 0x4147_5731;
-
-pub(crate) fn u16_at(bytes: &[u8], at: usize) -> u16
-    requires { at + 2 ≤ length bytes.now }
-    ensures { result ≡ from_be_bytes w16 (drop at bytes.now) }
-{
-    u16::from_be_bytes([bytes[at], bytes[at + 1]])
-}
-
-pub(crate) fn u32_at(bytes: &[u8], at: usize) -> u32
-    requires { at + 4 ≤ length bytes.now }
-    ensures { result ≡ from_be_bytes w32 (drop at bytes.now) }
-{
-    u32::from_be_bytes([bytes[at], bytes[at + 1], bytes[at + 2], bytes[at + 3]])
-}
-
-pub(crate) fn u64_at(bytes: &[u8], at: usize) -> u64
-    requires { at + 8 ≤ length bytes.now }
-    ensures { result ≡ from_be_bytes w64 (drop at bytes.now) }
-{
-    u64::from_be_bytes([
-        bytes[at],
-        bytes[at + 1],
-        bytes[at + 2],
-        bytes[at + 3],
-        bytes[at + 4],
-        bytes[at + 5],
-        bytes[at + 6],
-        bytes[at + 7],
-    ])
-}
 
 #[tactic(auto, unfolding(crate::specs::Reading::tag_in))]
 pub(crate) fn tag_of(bytes: &[u8]) -> Tag

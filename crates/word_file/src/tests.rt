@@ -2,6 +2,7 @@ ghost use Rattle.std.specs.Prelude.{◌≡◌, ◌<◌};
 
 use super::*;
 use agg_outside::{Bytes, Steps};
+use std::alloc::Global;
 use std::marker::Brand;
 use std::process::Abort;
 use std::sync::ledger::{Blank, Ledger};
@@ -137,4 +138,50 @@ fn texts_differ_first_where_they_stop_being_alike(rt: HostRuntime) {
     assert_eq!(rt; first_difference(b"ab", b"abd"), Some(2));
     assert_eq!(rt; first_difference(b"abd", b""), Some(0));
     assert_eq!(rt; first_difference(b"abd", b"abd"), None);
+}
+
+fn pairs(alloc: Global, keys: &[u8]) -> Result<WordFile, Fail> {
+    let mut writer = WordWriter::with_room(alloc, first_step(0), keys.len().saturating_mul(9))?;
+    for key in keys {
+        writer.push(&[*key])?;
+        writer.push(&[])?;
+    }
+    Ok(writer.finish())
+}
+
+fn ascend<L: Ledger>(words: &WordFile, blank: Blank) -> bool
+    requires name { blank.name ≡ L.name }
+    requires parts { blank.parts ≡ L.parts }
+    requires some { 0 < L.parts }
+{
+    let mut steps = Steps::<L>::of(blank);
+    is_paired(words) && keys_ascend(words, &mut steps)
+}
+
+fn are_in_order(alloc: Global, keys: &[u8]) -> Result<bool, Fail> {
+    let words = pairs(alloc, keys)?;
+    Ok(ascend::<Brand>(&words, Blank::new(1)))
+}
+
+#[test]
+fn keys_ascend_where_each_is_below_the_next(rt: HostRuntime) -> Result<(), Fail> {
+    assert!(rt; are_in_order(rt.alloc(), &[1, 2, 4])?);
+    assert!(rt; !are_in_order(rt.alloc(), &[1, 2, 2])?);
+    Ok(())
+}
+
+#[test]
+fn keys_have_offsets(rt: HostRuntime) -> Result<(), Fail> {
+    let words = pairs(rt.alloc(), &[1, 2, 4])?;
+    assert!(rt; is_paired(&words));
+    let offsets = key_offsets(rt.alloc(), &words)?;
+    assert!(rt; offsets.as_slice() == [40, 49, 58].as_slice());
+    Ok(())
+}
+
+#[test]
+fn a_text_is_followed_to_its_end(rt: HostRuntime) {
+    assert_eq!(rt; follow(b"abcde", 1, b"bcd"), Ok(4));
+    assert_eq!(rt; follow(b"abcde", 1, b"bcx"), Err(3));
+    assert_eq!(rt; follow(b"abcde", 3, b"dex"), Err(5));
 }

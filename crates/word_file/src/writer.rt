@@ -1,5 +1,5 @@
 ghost use Rattle.std.specs.Prelude.{◌≡◌, ◌<◌, ◌≤◌, ◌^◌, ◌++◌, [], ◌∷◌, length, take, drop, IfOk, OnOk, OnErr};
-ghost use Rattle.std.specs.Int.{w16, w32, w64, to_be_bytes};
+ghost use Rattle.std.specs.Int.{w64, to_be_bytes};
 ghost use Rattle.word_file.specs.Spelling.{TaggedWords, Fits, IsTag, IsPlace, header, word_bytes, end_of};
 ghost use Rattle.word_file.specs.Reading.{tagged};
 
@@ -8,6 +8,7 @@ use crate::read::{HEADER, MAGIC};
 use crate::tag::Tag;
 use agg_outside::{Bytes, Memory};
 use byteorder::{BigEndian, ByteOrder};
+use file_numbers::{put_u16, put_u32, put_u64};
 use std::alloc::Global;
 use std::marker::Model;
 
@@ -30,41 +31,13 @@ impl Model for WordWriter {
     ghost invariant = { λ w. IsBegun w.tag w.count w.bytes.items };
 }
 
-fn put_u16(out: &mut Vec<u8>, n: u16) -> Result<(), Memory>
-    ensures { OnOk result (out.new.items ≡ out.old.items ++ to_be_bytes w16 n) }
-{
-    let mut field = [0; 2];
-    BigEndian::write_u16(&mut field, n);
-    out.extend_from_slice(&field)?;
-    Ok(())
-}
-
-fn put_u32(out: &mut Vec<u8>, n: u32) -> Result<(), Memory>
-    ensures ok { OnOk result (out.new.items ≡ out.old.items ++ to_be_bytes w32 n) }
-    ensures err { OnErr result (out.new.items ≡ out.old.items) }
-{
-    let mut field = [0; 4];
-    BigEndian::write_u32(&mut field, n);
-    out.extend_from_slice(&field)?;
-    Ok(())
-}
-
-fn put_u64(out: &mut Vec<u8>, n: u64) -> Result<(), Memory>
-    ensures { OnOk result (out.new.items ≡ out.old.items ++ to_be_bytes w64 n) }
-{
-    let mut field = [0; 8];
-    BigEndian::write_u64(&mut field, n);
-    out.extend_from_slice(&field)?;
-    Ok(())
-}
-
-/// A header that says that there are no words.
+/// A header that says that there are no words, with room for so many bytes of words behind it.
 #[tactic(auto, unfolding(crate::specs::Spelling::header))]
-fn new_header(alloc: Global, tag: Tag) -> Result<Vec<u8>, Memory>
+fn new_header(alloc: Global, tag: Tag, room: usize) -> Result<Vec<u8>, Memory>
     ensures header { IfOk result (λ out. out.items ≡ header tag 0) }
     ensures fits { OnOk result (IsTag tag) }
 {
-    let mut out = Vec::with_capacity(alloc, HEADER)?;
+    let mut out = Vec::with_capacity(alloc, HEADER.saturating_add(room))?;
     put_u32(&mut out, MAGIC)?;
     out.push(tag.entity)?;
     out.push(tag.kind)?;
@@ -104,7 +77,15 @@ impl WordWriter {
     pub fn new(alloc: Global, tag: Tag) -> Result<WordWriter, Memory>
         ensures { IfOk result (λ w. w ≡ tagged tag []) }
     {
-        let bytes = new_header(alloc, tag)?;
+        WordWriter::with_room(alloc, tag, 0)
+    }
+
+    /// No words yet, and room for so many bytes of words, each of which takes 4 more than its length. Where the
+    /// room is enough, no `push` asks for memory.
+    pub fn with_room(alloc: Global, tag: Tag, room: usize) -> Result<WordWriter, Memory>
+        ensures { IfOk result (λ w. w ≡ tagged tag []) }
+    {
+        let bytes = new_header(alloc, tag, room)?;
         Ok(WordWriter {
             tag,
             count: 0,

@@ -10,13 +10,13 @@ loop-k-init c = sym (ap number_in (drop_all (length c.args.bytes.now - 0) c.args
 
 pub overflow_mul-number : goal.overflow_mul-number
 overflow_mul-number c =
-    let small : c.loop-k.number < 2 ^ 112 = few_below c.args.bytes.now c.loop-k.number c.loop-k.k (λ i. omega (arith, c.type_inv.bytes i)) c.requires c.loop-k-test.true c.loop-k.invariant in
+    let small : c.loop-k.number < 2 ^ 56 = few_below c.args.bytes.now c.loop-k.number c.loop-k.k (λ i. omega (arith, c.type_inv.bytes i)) c.requires c.loop-k-test.true c.loop-k.invariant in
     record { fits = omega arith }
 
 pub overflow_add-number : goal.overflow_add-number
 overflow_add-number c =
-    let small : c.loop-k.number < 2 ^ 112 = few_below c.args.bytes.now c.loop-k.number c.loop-k.k (λ i. omega (arith, c.type_inv.bytes i)) c.requires c.loop-k-test.true c.loop-k.invariant in
-    record { fits = omega (arith, c.type_inv.bytes (length c.args.bytes.now - 1 - c.loop-k.k)) }
+    let small : c.loop-k.number < 2 ^ 56 = few_below c.args.bytes.now c.loop-k.number c.loop-k.k (λ i. omega (arith, c.type_inv.bytes i)) c.requires c.loop-k-test.true c.loop-k.invariant in
+    record { fits = omega (arith, c.type_inv.bytes (length c.args.bytes.now - 1 - c.loop-k.k), c.from.ensures) }
 
 pub loop-k-preserved : goal.loop-k-preserved
-loop-k-preserved c = few_more c.args.bytes.now c.loop-k.number c.loop-k.k (λ i. omega (arith, c.type_inv.bytes i)) c.loop-k-test.true c.loop-k.invariant
+loop-k-preserved c = rw c.from.ensures (few_more c.args.bytes.now c.loop-k.number c.loop-k.k (λ i. omega (arith, c.type_inv.bytes i)) c.loop-k-test.true c.loop-k.invariant)

@@ -1,6 +1,6 @@
 use Rattle.std.proofs.Common.{◌-◌, ◌/◌, ℕ, refl, ap, arith}
 use Rattle.std.proofs.lemmas.Result.{err_from_is_err_and}
-use Rattle.btree_index.specs.Keys.{key_offsets}
+use Rattle.word_file.specs.Paired.{key_offsets}
 use Rattle.btree_index.proofs.Comparisons.{after_header, header_parts, after_level, level_parts, after_all}
 use Rattle.btree_index.proofs.compare.after_all.Goals as goal
 

@@ -1,5 +1,5 @@
 use Rattle.std.proofs.Common.{◌≤◌}
-use Rattle.btree_index.specs.Keys.{key_offsets}
+use Rattle.word_file.specs.Paired.{key_offsets}
 use Rattle.btree_index.specs.Levels.{levels_below, spelling}
 use Rattle.btree_index.proofs.Comparisons.{IsLeft}
 use Rattle.btree_index.proofs.compare.after_all.Given as goal

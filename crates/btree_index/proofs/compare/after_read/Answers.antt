@@ -1,7 +1,7 @@
 use Rattle.std.proofs.Common.{◌<◌, ◌/◌, ℕ, ap, ◌∙◌, arith}
 use Rattle.std.proofs.lemmas.Result.{err_from_is_err_and}
 use Rattle.btree_index.specs.Levels.{entries}
-use Rattle.btree_index.specs.Keys.{key_count}
+use Rattle.word_file.specs.Paired.{key_count}
 use Rattle.btree_index.proofs.Comparisons.{reading_begins, reading_goes_on, reading_parts, reading_ends, entry_stands, entry_field}
 use Rattle.btree_index.proofs.compare.after_read.Goals as goal
 
@@ -40,8 +40,8 @@ overflow_add-entry-in-loop-k c =
     let there = entry_stands c.args.words.now.words c.args.bytes.now c.args.lowest c.args.j c.loop-k.k c.requires.lowest lt in
     rw c.stride_of-stride.ensures.value (omega (arith, there))
 
-pub slice_bounds-after_field-end : goal.slice_bounds-after_field-end
-slice_bounds-after_field-end c =
+pub slice_bounds-follow-end : goal.slice_bounds-follow-end
+slice_bounds-follow-end c =
     let lt : c.loop-k.k < entries (key_count c.args.words.now.words) c.args.j =
     omega (arith, c.entries_of-k-end.ensures ∙ ap (λ (n : ℕ). entries (n / 2) c.args.j) c.count.ensures.count)
     in

@@ -1,5 +1,5 @@
 use Rattle.btree_index.specs.Levels.{offset_bytes}
-use Rattle.btree_index.specs.Agreement.{GoesOn}
+use Rattle.word_file.specs.Agreement.{GoesOn}
 use Rattle.btree_index.proofs.Comparisons.{first_entries}
 use Rattle.btree_index.proofs.compare.after_read.Given as goal
 

@@ -1,7 +1,7 @@
 use Rattle.std.proofs.Common.{◌+◌, ◌*◌, ℕ, length, ap, ◌∙◌, arith}
 use Rattle.std.proofs.lemmas.Result.{err_from_is_err_and}
 use Rattle.word_file.specs.Spelling.{offset_of}
-use Rattle.btree_index.proofs.Agreements.{goes_far}
+use Rattle.word_file.proofs.Agreements.{goes_far}
 use Rattle.btree_index.proofs.Comparisons.{begins, goes_on, parts, ends}
 use Rattle.btree_index.proofs.compare.after_walked.Goals as goal
 

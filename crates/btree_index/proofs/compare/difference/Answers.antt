@@ -1,7 +1,7 @@
 use Rattle.std.proofs.Common.{sym}
-use Rattle.btree_index.specs.Keys.{key_offsets}
+use Rattle.word_file.specs.Paired.{key_offsets}
 use Rattle.btree_index.specs.Levels.{spelling}
-use Rattle.btree_index.proofs.Agreements.{all_same, goes_past}
+use Rattle.word_file.proofs.Agreements.{all_same, goes_past}
 use Rattle.btree_index.proofs.compare.difference.Goals as goal
 
 pub returns-then-end-bytes : goal.returns-then-end-bytes

@@ -1,5 +1,5 @@
 use Rattle.std.proofs.Common.{◌/◌, ℕ, sym, ap, ◌∙◌, arith}
-use Rattle.btree_index.specs.Keys.{key_offsets}
+use Rattle.word_file.specs.Paired.{key_offsets}
 use Rattle.btree_index.proofs.Spellings.{held, seen}
 use Rattle.btree_index.proofs.Seeks.{length-key_offsets}
 use Rattle.btree_index.proofs.Extents.{offsets_fit}

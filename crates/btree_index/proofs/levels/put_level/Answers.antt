@@ -17,7 +17,7 @@ bounds-offsets-k c = rw c.stride_of-stride.ensures.value (entry_of c.loop-k.k (l
 pub loop-k-preserved : goal.loop-k-preserved
 loop-k-preserved c =
     level_more c.args.offsets.now c.args.out.now.items c.loop-k.out.items c.put_u64.new.out.items c.args.j c.loop-k.k c.loop-k.invariant
-    (rw (← c.stride_of-stride.ensures.value) c.in_ok-put_u64.ensures)
+    (rw (← c.stride_of-stride.ensures.value) c.in_ok-put_u64.ensures.ok)
 
 pub returns : goal.returns
 returns c = level_all c.args.offsets.now c.args.out.now.items c.loop-k.out.items c.args.j c.loop-k.k (omega (arith, c.entries_of-entries.ensures, c.loop-k.auto)) c.loop-k.invariant

@@ -8,7 +8,7 @@ loop-level-init c = record {
   few = c.levels_of-levels.ensures.few;
   spelled =
       begun c.args.offsets.now c.new-out.result.items c.put_u32.new.out.items c.put_u32-2.new.out.items c.put_u64.new.out.items c.levels_of-levels.result c.levels_of-levels.ensures.value c.new-out.ensures.items
-      c.in_ok-put_u32.ensures c.in_ok-put_u32-2.ensures c.in_ok-put_u64.ensures;
+      c.in_ok-put_u32.ensures.ok c.in_ok-put_u32-2.ensures.ok c.in_ok-put_u64.ensures.ok;
 }
 
 pub loop-level-preserved : goal.loop-level-preserved

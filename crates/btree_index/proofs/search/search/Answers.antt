@@ -1,6 +1,7 @@
 use Rattle.std.proofs.Common.{◌≡◌, ◌<◌, ◌+◌, ◌-◌, ◌*◌, ◌/◌, ◌^◌, ℕ, min, refl, ap, sym, subst, ◌∙◌, arith}
 use Rattle.std.proofs.lemmas.Bool.{false≢true}
-use Rattle.btree_index.specs.Keys.{key_count, IsNotBelow}
+use Rattle.word_file.specs.Paired.{key_count}
+use Rattle.btree_index.specs.Keys.{IsNotBelow}
 use Rattle.btree_index.specs.Levels.{entries}
 use Rattle.btree_index.proofs.Searches.{IsSearching, begins, entry_place, goes_up, goes_down}
 use Rattle.btree_index.proofs.search.search.Goals as goal

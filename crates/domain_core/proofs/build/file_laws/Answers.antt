@@ -1,4 +1,4 @@
-use Rattle.domain_core.specs.KvFileLaws.{kv_file_bytes-of, kv_file_bytes-later}
+use Rattle.domain_core.proofs.KvFileLaws.{kv_file_bytes-of, kv_file_bytes-later}
 use Rattle.domain_core.proofs.build.file_laws.Goals as goal
 
 pub returns-clause-bytes : goal.returns-clause-bytes

@@ -1,7 +1,7 @@
 use Rattle.std.proofs.Common.{◌+◌, sym, ◌∙◌, ap, arith}
 use Rattle.std.proofs.lemmas.Result.{IfOk-weaker}
 use Rattle.agg_model.specs.LastChanges.{step_pairs}
-use Rattle.agg_model.specs.LastChangesLaws.{kv_contents-step_pairs}
+use Rattle.agg_model.proofs.LastChangesLaws.{kv_contents-step_pairs}
 use Rattle.domain_core.proofs.step.step_pairs.Goals as goal
 
 pub returns : goal.returns

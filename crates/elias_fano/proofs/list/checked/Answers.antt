@@ -3,7 +3,8 @@ use Rattle.std.specs.Option.{option_or, option_map}
 use Rattle.elias_fano.specs.declared.error.EfError.TheVariants.{Unused}
 use Rattle.bit_store.proofs.Texts.{IsBytes}
 use Rattle.elias_fano.specs.Reading.{item_fault, parts_in, last_in}
-use Rattle.elias_fano.proofs.Checked.{fault-late, lower-len, upper-len, listed}
+use Rattle.elias_fano.proofs.Checked.{fault-late, lower-len, upper-len}
+use Rattle.elias_fano.proofs.Known.{known_fine}
 use Rattle.elias_fano.proofs.list.checked.Goals as goal
 
 pub returns-in-Some-clause-err : goal.returns-in-Some-clause-err
@@ -22,8 +23,7 @@ invariant_of-result c =
     let h = c.in_ok-header.ensures.ok in
     let fine : item_fault (last_in c.args.bytes.now) (parts_in c.args.bytes.now) ≡ None = sym (c.in-None.ensures ∙ ap (λ p. item_fault c.in_ok-header.header.last p) c.parts_of-parts.ensures ∙ ap (λ n. item_fault n (parts_in c.args.bytes.now)) h.last) in
     let bytes : IsBytes c.args.bytes.now = λ i. omega (arith, c.type_inv.bytes i) in
-    let marks = rw c.parts_of-parts.ensures at c.of-marks.ensures in
-    rw c.parts_of-parts.ensures (record { listed = listed c.args.bytes.now bytes c.requires h.size h.narrow fine; marks = marks })
+    rw c.parts_of-parts.ensures (known_fine c.args.bytes.now bytes c.requires (record { some = h.some; narrow = h.narrow; size = h.size; unused = sym c.in_default.ensures; items = fine }), tt)
 
 pub returns-in-Some-fault_of-clause-err : goal.returns-in-Some-fault_of-clause-err
 returns-in-Some-fault_of-clause-err c =

@@ -1,4 +1,4 @@
-use Rattle.std.proofs.Common.{◌≡◌, List, [], ◌∷◌, ◌++◌, ◌<◌, ◌-◌, Option, Some, length, take, sym, ap, ◌∙◌, arith, length-append}
+use Rattle.std.proofs.Common.{◌≡◌, List, [], ◌∷◌, ◌++◌, ◌<◌, ◌-◌, length, take, ap, ◌∙◌, arith, length-append}
 use Rattle.agg_outside.specs.declared.rows.RowId.{RowId}
 use Rattle.agg_outside.specs.declared.rows.Row.{Row}
 use Rattle.memory_side.specs.declared.row_body.RowBody.{RowBody}
@@ -17,18 +17,18 @@ loop-key-init c =
       tt,
       tt,
       rw none (omega arith),
-      rw (none, whole) (ap (λ (l : List (RowId × Option RowBody)). take limit (rows_of l)) e ∙ ap (λ (l : List Row). take limit l) (rows_of-range_from id slots)),
+      rw (none, whole) (ap (λ (l : List (RowId × RowBody)). take limit (rows_of l)) e ∙ ap (λ (l : List Row). take limit l) (rows_of-range_from id slots)),
     )
 
-pub loop-key-preserved-in_ok-push : goal.loop-key-preserved-in_ok-push
-loop-key-preserved-in_ok-push c =
+pub loop-key-preserved : goal.loop-key-preserved
+loop-key-preserved c =
     let key = c.in-Some.key.now in
-    let body = c.in-Some-slot.body in
+    let body = c.in-Some.body.now in
     let rest = c.next.new.self in
     let copies = c.loop-key.copies in
     let row : Row = c.in_ok-row.field-0 in
     let limit = c.args.limit in
-    let e : c.loop-key.key-iterator ≡ (key, Some body) ∷ rest = rw c.in-Some-slot.is at c.in-Some.ensures.steps in
+    let e : c.loop-key.key-iterator ≡ (key, body) ∷ rest = c.in-Some.ensures.steps in
     let pushed : c.push.new.self ≡ copies ++ row ∷ [] = c.in_ok-push.ensures.ok in
     let is = c.in_ok-row.ensures in
     let room : length copies < limit = omega (arith, c.len.ensures) in

@@ -1,16 +1,9 @@
-use Rattle.std.proofs.Common.{ℕ, List, length, take, ap, ◌∙◌, arith}
-use Rattle.bit_store.specs.Bits.{bits_of}
-use Rattle.recsplit_index.proofs.Layouts.{held_by, seen_by, are_numbers}
+use Rattle.std.proofs.Common.{arith}
+use Rattle.recsplit_index.proofs.Layings.{layout_held, layout_seen}
 use Rattle.recsplit_index.proofs.file.hold.Goals as goal
 
 pub invariant_of-result : goal.invariant_of-result
-invariant_of-result c =
-    held_by c.args.form c.args.salt c.args.starts.now c.args.offsets.now c.as_slice.result.now c.args.codes c.len-bits.result c.from_vec.result (are_numbers c.args.starts.now (λ i. omega (arith, c.type_inv.starts i)))
-    (are_numbers c.args.offsets.now (λ i. omega (arith, c.type_inv.offsets i))) c.len-bits.ensures (c.as_slice.ensures ∙ c.finish-text.ensures.text)
-    (ap (λ (t : List ℕ). take (length c.args.codes) (bits_of t)) c.as_slice.ensures ∙ c.finish-text.ensures.back) (c.from_vec.ensures ∙ c.in_ok-bytes.ensures)
+invariant_of-result c = layout_held c.args.layout.now c.requires.0 c.len.result c.len-2.result c.args.bytes (omega (arith, c.len.ensures)) (omega (arith, c.len-2.ensures)) c.requires.1 c.requires.2
 
 pub returns : goal.returns
-returns c =
-    seen_by c.args.form c.args.salt c.args.starts.now c.args.offsets.now c.as_slice.result.now c.args.codes c.len-bits.result c.from_vec.result (are_numbers c.args.starts.now (λ i. omega (arith, c.type_inv.starts i)))
-    (are_numbers c.args.offsets.now (λ i. omega (arith, c.type_inv.offsets i))) c.len-bits.ensures
-    (ap (λ (t : List ℕ). take (length c.args.codes) (bits_of t)) c.as_slice.ensures ∙ c.finish-text.ensures.back) (c.from_vec.ensures ∙ c.in_ok-bytes.ensures)
+returns c = λ x is spelled. layout_seen c.args.layout.now x c.len.result c.len-2.result c.args.bytes (omega (arith, c.len.ensures)) (omega (arith, c.len-2.ensures)) is spelled

@@ -1,11 +1,10 @@
-use Rattle.std.proofs.Common.{◌≡◌, [], map, take}
-use Rattle.std.specs.List.{range_with_len}
-use Rattle.recsplit_index.specs.Index.{bucket_keys}
-use Rattle.recsplit_index.proofs.KeyLists.{lists_of}
+use Rattle.std.proofs.Common.{◌-◌}
+use Rattle.word_file.specs.Paired.{key_count}
+use Rattle.recsplit_index.proofs.KeyLists.{IsGrouped}
 use Rattle.recsplit_index.proofs.keys.groups_of.Given as goal
 
-abbrev pub invariant-loop : goal.invariant-loop
-invariant-loop l = lists_of l.groups.items ≡ map (bucket_keys l.buckets []) (range_with_len 0 l.counter)
+abbrev pub invariant-loop-next : goal.invariant-loop-next
+invariant-loop-next g l = IsGrouped l.salt l.words.words l.buckets l.groups.items l.next l.place
 
-abbrev pub invariant-loop-key : goal.invariant-loop-key
-invariant-loop-key l = lists_of l.groups.items ≡ map (bucket_keys l.buckets (take l.key-index l.keys)) (range_with_len 0 l.buckets)
+abbrev pub decreases-loop-next : goal.decreases-loop-next
+decreases-loop-next g l = key_count l.words.words - l.place

@@ -1,4 +1,4 @@
-use Rattle.std.proofs.Common.{◌≡◌, List, ℕ, take, sym, subst, arith}
+use Rattle.std.proofs.Common.{◌≡◌, ℕ, take, sym, subst, arith}
 use Rattle.word_file.proofs.Differences.{cells_differ, one_ends, both_end}
 use Rattle.word_file.proofs.access.difference_from.Goals as goal
 

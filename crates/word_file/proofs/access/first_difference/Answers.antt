@@ -1,5 +1,5 @@
 use Rattle.std.proofs.Common.{sym, subst, ◌∙◌, ap, Option, ℕ}
-use Rattle.std.specs.Prelude.{IfSome, IsNone}
+use Rattle.std.specs.Prelude.{IfSome}
 use Rattle.word_file.specs.Difference.{first_difference, IsDifference}
 use Rattle.word_file.proofs.Differences.{none_is, is_none_from, first_difference-same, same_from_none, place_of_difference}
 use Rattle.word_file.proofs.access.first_difference.Goals as goal

@@ -4,6 +4,8 @@ use Rattle.agg_session.proofs.ServingLaws.{next_cut-shorter, next_cut-no_longer,
 use Rattle.agg_session.specs.Written.{BeginsToPut}
 use Rattle.plain_state.proofs.SettlingLaws.{on_err}
 use Rattle.agg_session.proofs.StoppingLaws.{stops_line, stops_put}
+use Rattle.agg_session.specs.Ends.{end_of_stop, end_of_sink}
+use Rattle.agg_session.proofs.BlameLaws.{is_err_of, want_at_stop, want_at_sink, blamed_stop, blamed_sink}
 use Rattle.agg_session.proofs.served.Served.answer_line.Goals as goal
 
 pub returns-in_err-text-clause-lines : goal.returns-in_err-text-clause-lines
@@ -47,18 +49,37 @@ returns-clause-shorter g c =
 pub returns-clause-answered : goal.returns-clause-answered
 returns-clause-answered g c = λ start first text all.
     let found : true ≡ is_some (next_cut c.args.self.now.cut).0 = ap is_some (sym c.in-Some.is) ∙ c.in_ok-text.ensures.found in
-    answered_more _ _ c.args.limits.now c.args.self.now _ c.in-Some.text first _ _ start text c.requires.sound c.next_reply.ensures.cut found refl (λ s stands. if_some _ _ _ c.in-Some.is (c.in_ok-text.ensures.exact s stands)) (λ b told. subst (λ (p : List ℕ). g.O.Sink.bytes c.put_all.new.sink ≡ Some (b ++ p)) c.as_slice.ensures (c.in_ok-put_all.ensures.ok b told)) all
+    answered_more _ _ c.args.limits.now c.args.self.now _ c.in-Some.text first _ _ start text c.requires.sound c.next_reply.ensures.cut found refl c.next_reply.ensures.devices.goes.steps (λ s stands. if_some _ _ _ c.in-Some.is (c.in_ok-text.ensures.exact s stands)) (λ b told. subst (λ (p : List ℕ). g.O.Sink.bytes c.put_all.new.sink ≡ Some (b ++ p)) c.as_slice.ensures (c.in_ok-put_all.ensures.ok b told)) all
 
 pub returns-in_err-text-clause-stopped : goal.returns-in_err-text-clause-stopped
 returns-in_err-text-clause-stopped g c = λ start first text all.
     on_err c.from_residual.result _
-    (stops_line _ _ c.args.limits.now c.args.self.now first _ _ start text c.next_reply.new.session.store c.next_reply.new.cut c.requires.sound c.next_reply.ensures.cut c.in_err-text.ensures.err_found refl (λ s stands. c.in_err-text.ensures.err s stands) all)
+    (stops_line _ _ c.args.limits.now c.args.self.now first _ _ start text c.next_reply.new.session.store c.next_reply.new.cut c.requires.sound c.next_reply.ensures.cut c.in_err-text.ensures.err_found c.next_reply.ensures.devices.goes.steps refl (λ s stands. c.in_err-text.ensures.err s stands) all)
 
 pub returns-in_err-put_all-clause-stopped : goal.returns-in_err-put_all-clause-stopped
 returns-in_err-put_all-clause-stopped g c = λ start first text all.
     let found : true ≡ is_some (next_cut c.args.self.now.cut).0 = ap is_some (sym c.in-Some.is) ∙ c.in_ok-text.ensures.found in
     on_err c.from_residual-in_err-put_all.result _
-    (stops_put _ _ c.args.limits.now c.args.self.now first _ _ start text c.next_reply.new.session c.next_reply.new.cut c.in-Some.text c.requires.sound c.next_reply.ensures.cut found
+    (stops_put _ _ c.args.limits.now c.args.self.now first _ _ start text c.next_reply.new.session c.next_reply.new.cut c.in-Some.text c.requires.sound c.next_reply.ensures.cut found c.next_reply.ensures.devices.goes.steps
     (λ s stands. if_some _ _ _ c.in-Some.is (c.in_ok-text.ensures.exact s stands))
     (λ b told. subst (λ (p : List ℕ). BeginsToPut b p (g.O.Sink.bytes c.put_all.new.sink)) c.as_slice.ensures (c.in_err-put_all.ensures.err b told))
     all)
+
+pub returns-in_err-text-clause-blamed : goal.returns-in_err-text-clause-blamed
+returns-in_err-text-clause-blamed g c =
+    blamed_stop g.D.Disk g.K.Keeper g.O.Sink ⊥ c.args.self.now.session.store _ c.args.sink.now c.args.sink.now c.in_err-text.field-0.0 c.next_reply.result c.from_residual.result
+    c.in_err-text.was (is_err_of c.from_residual.result (end_of_stop c.in_err-text.field-0.0) c.from_residual.ensures.1) c.next_reply.ensures.devices (omega arith)
+
+pub returns-in_err-text-clause-wants : goal.returns-in_err-text-clause-wants
+returns-in_err-text-clause-wants g c =
+    want_at_stop c.from_residual.result c.in_err-text.field-0.0 (is_err_of c.from_residual.result (end_of_stop c.in_err-text.field-0.0) c.from_residual.ensures.1)
+
+pub returns-in_err-put_all-clause-blamed : goal.returns-in_err-put_all-clause-blamed
+returns-in_err-put_all-clause-blamed g c =
+    blamed_sink g.D.Disk g.K.Keeper g.O.Sink ⊥ c.args.self.now.session.store _ c.args.sink.now c.put_all.new.sink c.in_err-put_all.field-0.0 c.put_all.result c.from_residual-in_err-put_all.result
+    c.in_err-put_all.was (is_err_of c.from_residual-in_err-put_all.result (end_of_sink c.in_err-put_all.field-0.0) c.from_residual-in_err-put_all.ensures.1)
+    c.next_reply.ensures.devices.goes c.put_all.ensures.cause
+
+pub returns-in_err-put_all-clause-wants : goal.returns-in_err-put_all-clause-wants
+returns-in_err-put_all-clause-wants g c =
+    want_at_sink c.from_residual-in_err-put_all.result c.in_err-put_all.field-0.0 (is_err_of c.from_residual-in_err-put_all.result (end_of_sink c.in_err-put_all.field-0.0) c.from_residual-in_err-put_all.ensures.1)

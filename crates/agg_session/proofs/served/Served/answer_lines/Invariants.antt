@@ -1,16 +1,15 @@
-use Rattle.std.proofs.Common.{◌≡◌, is_some, ◌≤◌, ◌+◌, List, ℕ, length, Option}
+use Rattle.std.proofs.Common.{◌≤◌, ◌+◌, List, ℕ, length, Option}
+use Rattle.plain_state.specs.Store.{Goes}
 use Rattle.agg_session.specs.State.{State}
 use Rattle.agg_session.specs.Served.{IsServed, IsAnswered}
 use Rattle.agg_session.proofs.served.Served.answer_lines.Given as goal
 
 abbrev pub invariant-loop : goal.invariant-loop
 invariant-loop g l = record {
-  sound : IsServed g.K.Keeper.held l.limits l.self;
+  sound : IsServed g.K.Keeper l.limits l.self;
   lines : l.self.lines + length l.self.cut.left ≤ l.initial.self.lines + length l.initial.self.cut.left;
-  answered : (start : State) (first : Option (List ℕ)) (text : List ℕ) → IsAnswered g.D.Disk.files g.K.Keeper.held l.limits l.initial.self first (g.O.Sink.bytes l.initial.sink) start text → IsAnswered g.D.Disk.files g.K.Keeper.held l.limits l.self first (g.O.Sink.bytes l.sink) start text;
-  tells : is_some (g.D.Disk.files l.self.session.store.disk) ≡ is_some (g.D.Disk.files l.initial.self.session.store.disk);
-  disk : g.D.Disk.faults l.initial.self.session.store.disk ≤ g.D.Disk.faults l.self.session.store.disk;
-  keeper : g.K.Keeper.faults l.initial.self.session.store.keeper ≤ g.K.Keeper.faults l.self.session.store.keeper;
+  answered : (start : State) (first : Option (List ℕ)) (text : List ℕ) → IsAnswered g.D.Disk g.K.Keeper l.limits l.initial.self first (g.O.Sink.bytes l.initial.sink) start text → IsAnswered g.D.Disk g.K.Keeper l.limits l.self first (g.O.Sink.bytes l.sink) start text;
+  goes : Goes g.D.Disk g.K.Keeper l.initial.self.session.store l.self.session.store;
   written : g.O.Sink.faults l.initial.sink ≤ g.O.Sink.faults l.sink;
 }
 

@@ -1,8 +1,9 @@
-use Rattle.std.proofs.Common.{All, length, subst, sym, ◌∙◌}
+use Rattle.std.proofs.Common.{All, subst, sym, ◌∙◌}
 use Rattle.agg_model.specs.declared.change.Change.{Change}
 use Rattle.agg_model.specs.declared.change.Act.TheVariants.{Put}
 use Rattle.agg_session.specs.declared.link.Link.{Link}
-use Rattle.agg_session.specs.Links.{HasFiles}
+use Rattle.agg_session.specs.declared.link.Transaction.{Transaction}
+use Rattle.plain_state.specs.Store.{HasView}
 use Rattle.agg_session.proofs.SessionLaws.{joined_link, on_true}
 use Rattle.agg_session.proofs.session.Session.put.Goals as goal
 
@@ -11,8 +12,8 @@ returns-then-branch-clause-sound g c = λ sound.
     let change : Change = record { tx = c.in-Some.tx; entity = c.args.entity; key = c.args.key; act = Put c.args.value } in
     record {
       store = sound.store;
-      files = subst (λ (l : Link). All (HasFiles (length c.args.self.now.store.files) c.args.self.now.store.size) l.transactions)
-          (sym (on_true c.in_ok-add.field-0 _ c.if-branch.true c.in_ok-add.ensures.added)) sound.files;
+      views = subst (λ (l : Link). All (λ (t : Transaction). HasView c.args.self.now.store t.view) l.transactions)
+          (sym (on_true c.in_ok-add.field-0 _ c.if-branch.true c.in_ok-add.ensures.added)) sound.views;
       link = joined_link c.args.limits.now _ c.args.self.now.link _ change sound.link c.in-Some.is
           (record { act_fits = c.requires.domain; key = c.requires.key; value = c.requires.value })
           (sym c.if-branch.true ∙ c.in_ok-add.ensures.could)

@@ -1,3 +1,7 @@
+use Rattle.std.proofs.Common.{subst, sym}
+use Rattle.plain_state.specs.Store.{Keeps}
+use Rattle.plain_state.proofs.SettlingLaws.{on_err}
+use Rattle.plain_state.proofs.StoreLaws.{kept}
 use Rattle.agg_session.proofs.session.Session.request.Goals as goal
 
 pub returns-in-Latest-clause-sound : goal.returns-in-Latest-clause-sound
@@ -7,7 +11,17 @@ pub returns-in-Tx-clause-sound : goal.returns-in-Tx-clause-sound
 returns-in-Tx-clause-sound g c = c.set_number.ensures.sound c.args.limits.now c.requires.sound
 
 pub returns-in-Close-clause-sound : goal.returns-in-Close-clause-sound
-returns-in-Close-clause-sound g c = c.end.ensures.sound c.args.limits.now c.requires.sound
+returns-in-Close-clause-sound g c = c.close_transaction.ensures.sound c.args.limits.now c.requires.sound
 
 pub returns-in-Settle-clause-sound : goal.returns-in-Settle-clause-sound
 returns-in-Settle-clause-sound g c = c.settle.ensures.sound c.args.limits.now c.requires.sound
+
+pub returns-in_err-put-in-Put-clause-err : goal.returns-in_err-put-in-Put-clause-err
+returns-in_err-put-in-Put-clause-err g c = λ s stands.
+    on_err c.from_residual.result _
+    (subst (λ x. Keeps g.D.Disk g.K.Keeper x s.list) (sym c.put.ensures.store) (kept g.D.Disk g.K.Keeper c.args.self.now.store s.list stands.list))
+
+pub returns-in_err-open_transaction-in-Open-clause-err : goal.returns-in_err-open_transaction-in-Open-clause-err
+returns-in_err-open_transaction-in-Open-clause-err g c = λ s stands.
+    on_err c.from_residual-in_err-open_transaction-in-Open.result _
+    (subst (λ x. Keeps g.D.Disk g.K.Keeper x s.list) (sym c.open_transaction.ensures.store) (kept g.D.Disk g.K.Keeper c.args.self.now.store s.list stands.list))

@@ -6,7 +6,7 @@ use Rattle.bit_store.proofs.Views.{ones_field}
 use Rattle.bit_store.proofs.view.BitView.ones_between.Goals as goal
 
 pub loop-at-init : goal.loop-at-init
-loop-at-init c = record { begun = omega arith; within = omega arith; counted = omega arith }
+loop-at-init c = record { begun = c.whole_ones-at.ensures.order; within = c.whole_ones-at.ensures.within; counted = rw c.self.view_is at c.whole_ones-at.ensures.counted }
 
 pub overflow_add-total : goal.overflow_add-total
 overflow_add-total c =

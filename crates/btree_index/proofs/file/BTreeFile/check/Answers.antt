@@ -1,7 +1,7 @@
 use Rattle.std.proofs.Common.{sym, ◌∙◌, ap, List, ℕ}
 use Rattle.word_file.specs.Difference.{first_difference}
 use Rattle.word_file.proofs.Differences.{first_difference-same, same_from_none}
-use Rattle.btree_index.specs.Keys.{key_offsets}
+use Rattle.word_file.specs.Paired.{key_offsets}
 use Rattle.btree_index.specs.Levels.{spelling}
 use Rattle.btree_index.proofs.file.BTreeFile.check.Goals as goal
 

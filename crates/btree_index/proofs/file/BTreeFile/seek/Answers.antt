@@ -1,7 +1,7 @@
 use Rattle.std.proofs.Common.{◌≡◌, ◌-◌, ℕ, List, suc, length, ap, subst, ◌∙◌, arith}
 use Rattle.btree_index.specs.Levels.{entries, levels, spelling, AreOffsets}
 use Rattle.std.proofs.lemmas.List.{take_rest, length-drop}
-use Rattle.btree_index.specs.Keys.{key_count, key_offsets}
+use Rattle.word_file.specs.Paired.{key_count, key_offsets}
 use Rattle.btree_index.proofs.Spellings.{held_as, spelling_long, spelling_16}
 use Rattle.btree_index.proofs.Seeks.{length-key_offsets}
 use Rattle.btree_index.proofs.Descents.{begins, goes_on, level_here}

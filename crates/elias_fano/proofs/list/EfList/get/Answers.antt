@@ -2,8 +2,8 @@ use Rattle.std.proofs.Common.{◌<◌, length, ◌∙◌, sym, arith}
 use Rattle.elias_fano.proofs.Places.{length-items_of, get_or-items_of}
 use Rattle.elias_fano.proofs.list.EfList.get.Goals as goal
 
-pub one-one-requires-clause-within : goal.one-one-requires-clause-within
-one-one-requires-clause-within c = let asked : c.args.i < length c.args.self.now = c.requires in omega (arith, rw (← c.self.view_is) at asked, length-items_of c.self.inside.parts, c.self.invariant.listed.sound.ones)
+pub one_of-one-requires-clause-within : goal.one_of-one-requires-clause-within
+one_of-one-requires-clause-within c = let asked : c.args.i < length c.args.self.now = c.requires in omega (arith, rw (← c.self.view_is) at asked, length-items_of c.self.inside.parts, c.self.invariant.0.listed.sound.ones)
 
 pub item-requires-clause-within : goal.item-requires-clause-within
 item-requires-clause-within c = let asked : c.args.i < length c.args.self.now = c.requires in omega (arith, rw (← c.self.view_is) at asked, length-items_of c.self.inside.parts)

@@ -13,6 +13,6 @@ returns-else-place-parts c =
 pub new-requires : goal.new-requires
 new-requires c =
     let p = c.self.inside.parts in
-    let sound = c.self.invariant.listed.sound in
+    let sound = c.self.invariant.0.listed.sound in
     let one = place-one p.upper c.args.place (omega (arith, c.if-place-parts.true, sound.ones)) in
-    rw (c.again.ensures, c.one-bit.ensures) (record { sound = sound; within = omega (arith, c.if-place-parts.true); inside = omega (arith, one.0.0); before = one.1 })
+    rw (c.again.ensures, c.one_of-bit.ensures) (record { sound = sound; within = omega (arith, c.if-place-parts.true); inside = omega (arith, one.0.0); before = one.1 })

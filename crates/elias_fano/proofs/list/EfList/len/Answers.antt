@@ -6,4 +6,4 @@ pub returns-clause-count : goal.returns-clause-count
 returns-clause-count c = rw (← c.self.view_is) (sym (length-items_of c.self.inside.parts))
 
 pub returns-clause-ascends : goal.returns-clause-ascends
-returns-clause-ascends c = rw (← c.self.view_is) c.self.invariant.listed.ascends
+returns-clause-ascends c = rw (← c.self.view_is) c.self.invariant.0.listed.ascends

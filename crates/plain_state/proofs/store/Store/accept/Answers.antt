@@ -1,9 +1,8 @@
 use Rattle.std.proofs.Common.{◌≡◌, true, ◌+◌, refl, arith, ap, sym, ◌∙◌}
 use Rattle.agg_model.specs.Batch.{content_of}
-use Rattle.agg_model.specs.ChangeList.{next_of}
+use Rattle.agg_model.specs.ChangeList.{next_of, begins_from}
 use Rattle.agg_model.specs.Merged.{merged}
-use Rattle.agg_model.specs.MergedLaws.{merged-HasNoRepeats}
-use Rattle.plain_state.specs.Store.{begins_from}
+use Rattle.agg_model.proofs.MergedLaws.{merged-HasNoRepeats}
 use Rattle.plain_state.proofs.StoreLaws.{can_add, next_batch, small_content, early_numbers, sound_after, commits_after, told_added}
 use Rattle.plain_state.proofs.store.Store.accept.Goals as goal
 

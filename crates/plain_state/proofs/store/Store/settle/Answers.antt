@@ -1,6 +1,7 @@
-use Rattle.std.proofs.Common.{ap, ◌∙◌, arith}
+use Rattle.std.proofs.Common.{ap, arith}
 use Rattle.plain_state.specs.declared.store.Store.{Store}
 use Rattle.plain_state.proofs.SettlingLaws.{all_steps, same_through}
+use Rattle.plain_state.proofs.GoingLaws.{goes-trans}
 use Rattle.plain_state.proofs.store.Store.settle.Goals as goal
 
 pub loop-alloc-preserved : goal.loop-alloc-preserved
@@ -10,11 +11,8 @@ loop-alloc-preserved g c =
     record {
       sound = λ most sound. step.sound most (before.sound most sound);
       holds = λ list holds. step.holds list (before.holds list holds);
-      grow = omega (arith, before.grow, step.grow);
       same = same_through c.args.self.now c.loop-alloc.self c.settle_step.new.self before.same step.same;
-      tells = step.tells ∙ before.tells;
-      disk = omega (arith, before.disk, step.disk.no_fall);
-      keeper = omega (arith, before.keeper, step.keeper.no_fall);
+      goes = goes-trans g.D.Disk g.K.Keeper c.args.self.now c.loop-alloc.self c.settle_step.new.self before.goes step.goes;
     }
 
 pub returns-in_err-settle_step-clause-sound : goal.returns-in_err-settle_step-clause-sound
@@ -22,7 +20,7 @@ returns-in_err-settle_step-clause-sound g c = λ most sound. c.in_err-settle_ste
 
 pub returns-clause-all : goal.returns-clause-all
 returns-clause-all g c = λ most sound.
-    all_steps g.K.Keeper.held most c.args.self.now c.loop-alloc.self
+    all_steps g.K.Keeper most c.args.self.now c.loop-alloc.self
     (ap (λ (s : Store g.row.D.Denot g.row.K.Denot). s.next) c.loop-alloc.invariant.same)
     (ap (λ (s : Store g.row.D.Denot g.row.K.Denot). s.size) c.loop-alloc.invariant.same)
     (c.loop-alloc.invariant.sound most sound) (omega (arith, c.loop-alloc-test.false, c.len.ensures))

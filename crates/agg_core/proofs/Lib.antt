@@ -1,0 +1,4 @@
+pub mod OneName
+pub mod Written
+pub mod Stays
+pub mod Kept

@@ -1,0 +1,4 @@
+pub mod Names
+pub mod Bytes
+pub mod Files
+pub mod Rows

@@ -1,0 +1,1 @@
+use Rattle.elias_fano.proofs.list.EfList.with.Goals as goal

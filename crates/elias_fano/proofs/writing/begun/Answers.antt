@@ -1,0 +1,1 @@
+use Rattle.elias_fano.proofs.writing.begun.Goals as goal

@@ -1,0 +1,1 @@
+use Rattle.elias_fano.proofs.writing.fill_byte.Goals as goal

@@ -1,0 +1,1 @@
+use Rattle.recsplit_index.proofs.compare.follow_on.Goals as goal
