@@ -1,3 +1,11 @@
+pub mod ArrangedLaws
 pub mod Checks
+pub mod ContentsLaws
+pub mod CoverageLaws
+pub mod EntityLaws
+pub mod GrownLaws
+pub mod LastChangesLaws
 pub mod LookUps
+pub mod MergedLaws
 pub mod Merges
+pub mod PlaceOrder

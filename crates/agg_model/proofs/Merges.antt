@@ -3,7 +3,7 @@ use Rattle.std.proofs.Common.{◌≡◌, ℕ, suc, ◌<◌, Bool, true, false, c
 use Rattle.std.specs.Option.{option_or, option_map}
 use Rattle.agg_model.specs.declared.change.Change.{Change}
 use Rattle.agg_model.specs.Place.{Place, place_of, is_same_place}
-use Rattle.agg_model.specs.PlaceOrder.{is_same_place-true, is_same_place-back}
+use Rattle.agg_model.proofs.PlaceOrder.{is_same_place-true, is_same_place-back}
 use Rattle.agg_model.specs.Merged.{put_over}
 use Rattle.std.specs.BTreeMap.{BTreeMap, get}
 use Rattle.agg_model.specs.Spot.{spot, spot_cmp, place_of_spot}

@@ -4,6 +4,7 @@ use Rattle.agg_model.specs.declared.entity.Entity.{Entity}
 use Rattle.agg_model.specs.declared.change.Act.{Act}
 use Rattle.agg_model.specs.declared.change.Act.TheVariants.{Put, Del, Mark}
 use Rattle.agg_model.specs.declared.change.Change.{Change}
+use Rattle.agg_model.specs.declared.limits.TheConstants.{KEY_MOST, VALUE_MOST}
 use Rattle.agg_model.specs.Entity.{is_domain_entity}
 use Rattle.agg_model.specs.Place.{place_of}
 
@@ -15,12 +16,12 @@ fits_entity e Mark = not (is_domain_entity e)
 
 pub record IsKey (key : List ℕ) : Type 0 where
   pub not_empty : 1 ≤ length key
-  pub within : length key ≤ 64
+  pub within : length key ≤ KEY_MOST
   pub bytes : All (λ b. b < 256) key
 
 pub record IsValue (value : List ℕ) : Type 0 where
   pub not_empty : 1 ≤ length value
-  pub within : length value ≤ 65535
+  pub within : length value ≤ VALUE_MOST
   pub bytes : All (λ b. b < 256) value
 
 abbrev pub HasValue : Act → Type 0
@@ -55,6 +56,9 @@ value_length (Put value) = length value
 value_length Del = 0
 value_length Mark = 0
 
+abbrev pub content_of_change : Change → ℕ
+content_of_change c = length c.key + value_length c.act + 64
+
 abbrev pub content_of : List Change → ℕ
 content_of [] = 0
-content_of (c ∷ cs) = length c.key + value_length c.act + 64 + content_of cs
+content_of (c ∷ cs) = content_of_change c + content_of cs

@@ -6,6 +6,7 @@ use Rattle.agg_model.specs.declared.change.Act.TheVariants.{Put, Del, Mark}
 use Rattle.agg_model.specs.declared.change.Change.{Change}
 use Rattle.agg_model.specs.declared.check.BatchError.{BatchError}
 use Rattle.agg_model.specs.declared.check.BatchError.TheVariants.{WrongAct, KeyLength, ValueLength, Order, Far}
+use Rattle.agg_model.specs.declared.limits.TheConstants.{KEY_MOST, VALUE_MOST}
 use Rattle.agg_model.specs.Batch.{fits_entity}
 
 -- a length that is not from 1 to `most`
@@ -13,7 +14,7 @@ abbrev pub is_outside : ℕ → ℕ → Bool
 is_outside most n = nat_lt n 1 || nat_lt most n
 
 abbrev pub value_refusal : Act → Option BatchError
-value_refusal (Put value) = if is_outside 65535 (length value) then Some (ValueLength (length value)) else None
+value_refusal (Put value) = if is_outside VALUE_MOST (length value) then Some (ValueLength (length value)) else None
 value_refusal Del = None
 value_refusal Mark = None
 
@@ -21,7 +22,7 @@ value_refusal Mark = None
 unfoldable pub shape_refusal : Change → Option BatchError
 shape_refusal c =
     if not (fits_entity c.entity c.act) then Some (WrongAct c.entity)
-    else if is_outside 64 (length c.key) then Some (KeyLength (length c.key))
+    else if is_outside KEY_MOST (length c.key) then Some (KeyLength (length c.key))
     else value_refusal c.act
 
 -- the number, where `least` is the smallest that may come, as an answer names `last`

@@ -1,12 +1,14 @@
 -- The list of all changes, and what a key holds just before a number.
-use Rattle.std.specs.Prelude.{ℕ, ◌+◌, ◌++◌, ◌*◌, ◌^◌, ◌<◌, ◌≤◌, Bool, List, [], ◌∷◌, ◌&&◌, nat_lt, if◌then◌else◌, Option, Some, None, All}
+use Rattle.std.specs.Prelude.{ℕ, ◌+◌, ◌++◌, ◌*◌, ◌^◌, ◌<◌, ◌≤◌, Bool, List, [], ◌∷◌, ◌&&◌, nat_lt, nat_le, false, if◌then◌else◌, Option, Some, None, All}
 use Rattle.std.specs.Option.{option_or, option_and_then}
 use Rattle.agg_model.specs.declared.entity.Entity.{Entity}
 use Rattle.agg_model.specs.declared.change.Act.{Act}
 use Rattle.agg_model.specs.declared.change.Act.TheVariants.{Put, Del, Mark}
 use Rattle.agg_model.specs.declared.change.Change.{Change}
+use Rattle.agg_model.specs.declared.limits.TheConstants.{STEPS_MOST}
 use Rattle.agg_model.specs.Place.{is_of}
-use Rattle.agg_model.specs.Batch.{AscendFrom, HasNoRepeats, IsChange}
+use Rattle.agg_model.specs.Batch.{AscendFrom, HasNoRepeats, IsChange, content_of}
+use Rattle.agg_model.specs.Merged.{merged}
 
 -- all accepted changes in order, the number from which on the next ones come, and how many numbers a step has
 pub record ChangeList : Type 0 where
@@ -17,7 +19,7 @@ pub record ChangeList : Type 0 where
 pub record IsChangeList (list : ChangeList) : Type 0 where
   pub size_from_one : 1 ≤ list.size
   pub size_within : list.size ≤ 2 ^ 32
-  pub next_within : list.next ≤ 4096 * list.size
+  pub next_within : list.next ≤ STEPS_MOST * list.size
   pub below_next : All (λ c. c.tx < list.next) list.changes
   pub ascend : AscendFrom 0 list.changes
   pub no_repeats : HasNoRepeats list.changes
@@ -31,6 +33,16 @@ next_of next (c ∷ cs) = next_of (c.tx + 1) cs
 -- the list after a batch
 abbrev pub grown : ChangeList → List Change → ChangeList
 grown list batch = record { changes = list.changes ++ batch; next = next_of list.next batch; size = list.size }
+
+-- there is a first change, and it is not below the next number
+abbrev pub begins_from : ℕ → List Change → Bool
+begins_from next [] = false
+begins_from next (c ∷ cs) = nat_le next c.tx
+
+-- whether the list may grow by the pending changes, of repeats the last
+abbrev pub may_grow : ℕ → ChangeList → List Change → Bool
+may_grow most list pending =
+    begins_from list.next pending && nat_le (content_of list.changes + content_of (merged pending)) most
 
 -- the last change that passes the test
 abbrev pub last_where : (Change → Bool) → List Change → Option Change

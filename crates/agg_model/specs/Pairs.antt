@@ -7,6 +7,7 @@ use Rattle.std.specs.declared.cmp.Ordering.TheVariants.{Less}
 use Rattle.agg_model.specs.declared.entity.Entity.{Entity}
 use Rattle.agg_model.specs.declared.change.Change.{Change}
 use Rattle.agg_model.specs.declared.contents.Pair.{Pair}
+use Rattle.agg_model.specs.declared.limits.TheConstants.{KEY_MOST, VALUE_MOST}
 use Rattle.agg_model.specs.Place.{is_of}
 use Rattle.agg_model.specs.ChangeList.{value_of, last_where}
 use Rattle.agg_model.specs.Contents.{kv_contents, is_of_within}
@@ -25,8 +26,8 @@ pair_keys pairs = map (λ p. p.key) pairs
 
 pub record IsPair (p : Pair) : Type 0 where
   pub not_empty : 1 ≤ length p.key
-  pub key_within : length p.key ≤ 64
-  pub value_within : length p.value ≤ 65535
+  pub key_within : length p.key ≤ KEY_MOST
+  pub value_within : length p.value ≤ VALUE_MOST
 
 pub record ArePairs (pairs : List Pair) : Type 0 where
   pub ascend : KeysAscend (pair_keys pairs)

@@ -2,7 +2,8 @@
 use Rattle.std.specs.Prelude.{ℕ, Bool, List, ◌==◌, ◌&&◌, nat_eq}
 use Rattle.std.specs.declared.cmp.Ordering.{Ordering}
 use Rattle.std.specs.Ordering.{nat_cmp, ordering_then, is_lt, is_eq}
-use Rattle.std.specs.Cmp.Lexicographic.{pointwise, slice_cmp}
+use Rattle.std.specs.Cmp.{IsTotalOrder, then_total, on_total, nat_cmp_total}
+use Rattle.std.specs.Cmp.Lexicographic.{pointwise, slice_cmp, nat_list_cmp_total}
 use Rattle.agg_model.specs.Entity.{entity_number}
 use Rattle.agg_model.specs.declared.entity.Entity.{Entity}
 use Rattle.agg_model.specs.declared.change.Change.{Change}
@@ -23,6 +24,14 @@ place_of c = record { entity = entity_number c.entity; key = c.key; number = c.t
 unfoldable pub place_cmp : Place → Place → Ordering
 place_cmp p q =
     ordering_then (nat_cmp p.entity q.entity) (ordering_then (slice_cmp nat_cmp p.key q.key) (nat_cmp p.number q.number))
+
+-- it is a total order, as the type that is ordered by it has to say
+pub place_cmp_total : IsTotalOrder place_cmp
+unfolding place_cmp
+place_cmp_total =
+    then_total
+    (on_total (λ (p : Place). p.entity) nat_cmp_total)
+    (then_total (on_total (λ (p : Place). p.key) nat_list_cmp_total) (on_total (λ (p : Place). p.number) nat_cmp_total))
 
 unfoldable pub is_before : Place → Place → Bool
 is_before p q = is_lt (place_cmp p q)

@@ -4,8 +4,7 @@ use Rattle.std.specs.declared.cmp.Ordering.{Ordering}
 use Rattle.agg_model.specs.declared.change.Change.{Change}
 use Rattle.agg_model.specs.declared.merge.Spot.{Spot}
 use Rattle.agg_model.specs.Entity.{entity_number}
-use Rattle.agg_model.specs.Place.{Place, place_cmp}
-use Rattle.agg_model.specs.PlaceOrder.{place_cmp_total}
+use Rattle.agg_model.specs.Place.{Place, place_cmp, place_cmp_total}
 
 abbrev pub spot : Change → Spot
 spot c = record { entity = entity_number c.entity; key = c.key; tx = c.tx }

@@ -1,15 +1,12 @@
-ghost use Rattle.std.specs.Prelude.{◌≡◌, ◌+◌, ◌<◌, ◌^◌, length, All, Some, None, OnOk, if◌then◌else◌};
+ghost use Rattle.std.specs.Prelude.{◌≡◌, ◌<◌, ◌^◌, length, All, Some, None, OnOk, if◌then◌else◌};
 ghost use Rattle.std.specs.Result.{result_err};
-ghost use Rattle.agg_model.specs.Batch.{fits_entity, IsBatch, IsChange, HasValue, content_of, value_length};
+ghost use Rattle.agg_model.specs.Batch.{fits_entity, IsBatch, IsChange, HasValue, content_of};
 ghost use Rattle.agg_model.specs.BatchRefusals.{is_outside, value_refusal, shape_refusal, number_refusal, first_refusal};
 
 use crate::change::{Act, Batch, Change};
 use crate::entity::Entity;
+use crate::limits::{KEY_MOST, VALUE_MOST};
 use agg_outside::{Bytes, slice_fits};
-
-const KEY_MOST: u64 = 64;
-
-const VALUE_MOST: u64 = 65_535;
 
 /// Why a batch may not come next.
 #[derive(Clone, Copy, Debug, PartialEq, Eq)]
@@ -111,18 +108,6 @@ pub fn check_batch(next: u64, far: u64, batch: &Batch) -> Result<(), BatchError>
     Ok(())
 }
 
-fn content_of_change(change: &Change) -> u64
-    requires { length change.now.key + value_length change.now.act + 64 < 2 ^ 63 }
-    ensures { result ≡ length change.now.key + value_length change.now.act + 64 }
-{
-    let value = match &change.act {
-        Act::Put(value) => value.as_slice().len() as u64,
-        Act::Del => 0,
-        Act::Mark => 0,
-    };
-    change.key.as_slice().len() as u64 + value + 64
-}
-
 /// The bytes of all keys and values, and 64 for each change: what limits count.
 pub fn content(batch: &Batch) -> u64
     requires { content_of batch.now < 2 ^ 63 }
@@ -130,7 +115,7 @@ pub fn content(batch: &Batch) -> u64
 {
     let mut total: u64 = 0;
     for change in batch.as_slice() {
-        total += content_of_change(change);
+        total += change.content();
     }
     total
 }

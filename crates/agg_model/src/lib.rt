@@ -6,6 +6,7 @@ mod change;
 mod check;
 mod contents;
 mod entity;
+mod limits;
 mod look_up;
 mod merge;
 
@@ -13,6 +14,7 @@ pub use change::{Act, Batch, Change, StepRows};
 pub use check::{BatchError, check_batch, content};
 pub use contents::{Before, Befores, Lists, Pair, Pairs, Times, contents_laws, coverage_laws};
 pub use entity::{Entity, FileKind, Range};
+pub use limits::{KEY_MOST, STEPS_MOST, VALUE_MOST};
 pub use look_up::{arranged_laws, look_up_law, plain_value_at};
 pub use merge::{grown_laws, merge_repeats, merged_laws};
 

@@ -9,6 +9,7 @@ ghost use Rattle.agg_model.specs.Merged.{merged};
 ghost use Rattle.agg_model.specs.Spot.{spot, spot_cmp, spot_cmp_total};
 
 use crate::change::{Batch, Change};
+use crate::limits::STEPS_MOST;
 use agg_outside::{Bytes, ListOf, Memory};
 use std::alloc::Global;
 use std::cmp::Ordering;
@@ -109,7 +110,7 @@ pub fn merged_laws()
 /// What holds of every list once a batch that may come next, without repeats, is added to it.
 pub fn grown_laws()
     ensures list { (list : ChangeList) (batch : List Change) → IsChangeList list →
-        IsBatch list.next (4096 * list.size) batch → HasNoRepeats batch → IsChangeList (grown list batch) }
+        IsBatch list.next (STEPS_MOST * list.size) batch → HasNoRepeats batch → IsChangeList (grown list batch) }
     // What was there to read stays.
     ensures stays { (cs ds : List Change) (e : Entity) (k : List ℕ) (n : ℕ) →
         All (λ d. n ≤ d.tx) ds → value_at (cs ++ ds) e k n ≡ value_at cs e k n }

@@ -29,10 +29,6 @@ fn two_values(alloc: Global) -> Result<Batch, Memory> {
 fn a_change_counts_from_the_next_number_on(rt: HostRuntime) -> Result<(), Fail> {
     let alloc = rt.alloc();
     let batch = merge_repeats(alloc, two_values(alloc)?)?;
-    merged_laws();
-    grown_laws();
-    arranged_laws();
-    look_up_law(Entity::Accounts, b"\xaa", 6);
     assert_eq!(rt; batch.len(), 2);
     let expected: [(u64, Option<u8>); 5] = [
         (5, None),
@@ -81,6 +77,18 @@ fn a_change_without_bytes_has_content_64(rt: HostRuntime) -> Result<(), Fail> {
         act: Act::Del,
     })?;
     assert_eq!(rt; content(&batch), 64);
+    Ok(())
+}
+
+#[test]
+fn a_row_tells_its_act(rt: HostRuntime) -> Result<(), Fail> {
+    let alloc = rt.alloc();
+    let put = Act::Put(Bytes::of(alloc, b"\x01")?);
+    assert_eq!(rt; put.number(), 0);
+    assert!(rt; Act::of_number(0, Bytes::of(alloc, put.value())?) == Some(put));
+    assert_eq!(rt; Act::Mark.number(), 2);
+    assert!(rt; Act::of_number(1, Act::Del.into_value(alloc)) == Some(Act::Del));
+    assert!(rt; Act::of_number(3, Act::Del.into_value(alloc)) == None);
     Ok(())
 }
 

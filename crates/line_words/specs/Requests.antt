@@ -2,6 +2,7 @@
 use Rattle.std.specs.Prelude.{◌≡◌, ◌⊎◌, MatchResult, ℕ, ◌^◌, ◌<◌, IsTrue, if◌then◌else◌, List, [], ◌∷◌, length, codes, Result, Ok, Err, ok_or}
 use Rattle.std.specs.Str.{bytes_eq}
 use Rattle.agg_model.specs.declared.entity.Entity.{Entity}
+use Rattle.agg_model.specs.declared.limits.TheConstants.{KEY_MOST, VALUE_MOST}
 use Rattle.agg_model.specs.Entity.{is_domain_entity}
 use Rattle.agg_model.specs.Batch.{IsKey, IsValue}
 use Rattle.agg_model.specs.BatchRefusals.{is_outside}
@@ -67,8 +68,8 @@ put_request words = do
   e ← ok_or (entity_of_word w.0) errors.Syntax
   k ← ok_or (bytes_of_word w.1) errors.Syntax
   v ← ok_or (bytes_of_word w.2) errors.Syntax
-  _ ← length_fits 64 k
-  _ ← length_fits 65535 v
+  _ ← length_fits KEY_MOST k
+  _ ← length_fits VALUE_MOST v
   _ ← holds_values e
   Ok (Put e k v)
 
@@ -79,7 +80,7 @@ latest_request words = do
   t ← ok_or (number_of w.0) errors.Syntax
   e ← ok_or (entity_of_word w.1) errors.Syntax
   k ← ok_or (bytes_of_word w.2) errors.Syntax
-  _ ← length_fits 64 k
+  _ ← length_fits KEY_MOST k
   _ ← holds_values e
   Ok (Latest t e k)
 

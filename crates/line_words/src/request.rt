@@ -4,7 +4,7 @@ ghost use Rattle.line_words.specs.Words.{words_of, hex_error};
 ghost use Rattle.line_words.specs.declared.request.LineError.TheVariants as errors;
 
 use crate::words::{Words, bytes, entity, number};
-use agg_model::Entity;
+use agg_model::{Entity, KEY_MOST, VALUE_MOST};
 use agg_outside::Bytes;
 use hex::FromHexError;
 use std::alloc::Global;
@@ -52,10 +52,6 @@ impl From<FromHexError> for LineError {
     }
 }
 
-const MAX_KEY_LENGTH: usize = 64;
-
-const MAX_VALUE_LENGTH: usize = 65_535;
-
 fn no_words(mut words: Words<'_>) -> Result<(), LineError>
     ensures { result ≡ no_words words.entry }
 {
@@ -90,12 +86,12 @@ fn three_words<'a>(mut words: Words<'a>) -> Result<(&'a [u8], &'a [u8], &'a [u8]
     Ok((a, b, c))
 }
 
-fn check_length(most: usize, bytes: &Bytes) -> Result<(), LineError>
+fn check_length(most: u64, bytes: &Bytes) -> Result<(), LineError>
     ensures { result ≡ length_fits most bytes.now }
 {
-    let length = bytes.as_slice().len();
+    let length = bytes.as_slice().len() as u64;
     if length < 1 || most < length {
-        return Err(LineError::Length(length as u64));
+        return Err(LineError::Length(length));
     }
     Ok(())
 }
@@ -137,8 +133,8 @@ fn put(alloc: Global, words: Words<'_>) -> Result<Request, LineError>
     let e = entity(e)?;
     let k = bytes(alloc, k)?;
     let v = bytes(alloc, v)?;
-    check_length(MAX_KEY_LENGTH, &k)?;
-    check_length(MAX_VALUE_LENGTH, &v)?;
+    check_length(KEY_MOST, &k)?;
+    check_length(VALUE_MOST, &v)?;
     check_domain(e)?;
     Ok(Request::Put(e, k, v))
 }
@@ -152,7 +148,7 @@ fn latest(alloc: Global, words: Words<'_>) -> Result<Request, LineError>
     let t = number(t)?;
     let e = entity(e)?;
     let k = bytes(alloc, k)?;
-    check_length(MAX_KEY_LENGTH, &k)?;
+    check_length(KEY_MOST, &k)?;
     check_domain(e)?;
     Ok(Request::Latest(t, e, k))
 }

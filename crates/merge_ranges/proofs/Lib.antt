@@ -1,3 +1,9 @@
-pub mod Walks
-pub mod Texts
+pub mod CutLaws
+pub mod KindLaws
+pub mod NameCounts
+pub mod NameLaws
+pub mod NameOrder
 pub mod Names
+pub mod Sizes
+pub mod Texts
+pub mod Walks

@@ -1,16 +1,17 @@
 -- Names from their parts, and names on the disk.
 use Rattle.std.specs.Prelude.{IfSome, codes}
 use Rattle.std.proofs.Common.{◌≡◌, ℕ, ◌^◌, ◌<◌, drop, arith, Bool, true, false, List, ◌∷◌, ◌++◌, Option, Some, None, sym, ◌∙◌, ap}
-use Rattle.agg_model.specs.Entity.{entity_name, entity_name-injective}
+use Rattle.agg_model.specs.Entity.{entity_name}
+use Rattle.agg_model.proofs.EntityLaws.{entity_name-injective}
 use Rattle.merge_ranges.specs.declared.name.FileName.{FileName}
 use Rattle.merge_ranges.specs.declared.name.DiskName.{DiskName}
 use Rattle.merge_ranges.specs.Name.{is_name, spelled, spelled_on_disk, on_disk_of, range_and_kind}
 use Rattle.std.specs.Prelude.{decimal}
 use Rattle.std.specs.Str.Parse.{digits_value}
 use Rattle.std.proofs.lemmas.Fmt.{decimal_is_IsNumeral}
-use Rattle.merge_ranges.specs.Kind.{ending-injective}
+use Rattle.merge_ranges.proofs.KindLaws.{ending-injective}
 use Rattle.merge_ranges.proofs.Texts.{one_cut}
-use Rattle.merge_ranges.specs.NameLaws.{spelled-parts, not_temporary, entity_name-without, decimal-without, from_small, to_small}
+use Rattle.merge_ranges.proofs.NameLaws.{spelled-parts, not_temporary, entity_name-without, decimal-without, from_small, to_small}
 
 pub joined : (text rest entity tail : List ℕ) (o : Option FileName) → text ≡ codes "v1-" ++ rest → rest ≡ entity ++ 46 ∷ tail
     → IfSome o (λ n. entity_name n.entity ≡ entity) → IfSome o (λ n. range_and_kind n.range n.kind ≡ tail) → IfSome o (λ n. spelled n ≡ text)

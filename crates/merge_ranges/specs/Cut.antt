@@ -1,7 +1,8 @@
 -- Cuts of the steps into aligned ranges, the canonical cut, and what is to be merged next.
-use Rattle.std.specs.Prelude.{◌≡◌, ℕ, zero, suc, ◌+◌, ◌-◌, ◌%◌, Bool, not, ◌==◌, ◌&&◌, nat_lt, nat_le, List, [], ◌∷◌, if◌then◌else◌, Option, IsTrue, find}
+use Rattle.std.specs.Prelude.{◌≡◌, ℕ, zero, suc, ◌+◌, ◌-◌, ◌%◌, ◌≤◌, Bool, true, not, ◌==◌, ◌&&◌, nat_lt, nat_le, List, [], ◌∷◌, ◌++◌, length, if◌then◌else◌, Option, IsTrue, find}
 use Rattle.std.specs.List.{list_any}
 use Rattle.agg_model.specs.declared.entity.Range.{Range}
+use Rattle.agg_model.specs.declared.limits.TheConstants.{STEPS_MOST}
 
 -- how many steps an aligned range may have, most first
 abbrev pub sizes : List ℕ
@@ -12,7 +13,7 @@ is_size n = list_any (λ s. s == n) sizes
 
 -- the number of steps is one of the sizes, the first step is a multiple of it, and no step is above 4,095
 unfoldable pub is_aligned : Range → Bool
-is_aligned r = is_size (r.to - r.from) && (r.from % (r.to - r.from) == 0) && nat_le r.to 4096
+is_aligned r = is_size (r.to - r.from) && (r.from % (r.to - r.from) == 0) && nat_le r.to STEPS_MOST
 
 -- adjacent aligned ranges from a step on
 abbrev pub IsCutFrom : ℕ → List Range → Type 0
@@ -57,6 +58,21 @@ same_range r q = (r.from == q.from) && (r.to == q.to)
 
 abbrev pub contains_range : List Range → Range → Bool
 contains_range cut r = list_any (λ q. same_range q r) cut
+
+-- the range is the union of ranges that stand together in the cut
+pub record IsUnionIn (cut : List Range) (g : Range) : Type 0 where
+  pub front : List Range
+  pub mid : List Range
+  pub back : List Range
+  pub parts : cut ≡ front ++ (mid ++ back)
+  pub chain : IsCutFrom g.from mid
+  pub ends : end_from g.from mid ≡ g.to
+  pub several : 2 ≤ length mid
+
+-- each of the ranges is in the cut
+abbrev pub HasAll : List Range → List Range → Type 0
+HasAll cut [] = Unit {0}
+HasAll cut (g ∷ gs) = (contains_range cut g ≡ true) × HasAll cut gs
 
 -- the ranges share a step
 abbrev pub meets : Range → Range → Bool

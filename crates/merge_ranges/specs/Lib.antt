@@ -1,7 +1,4 @@
+pub mod CanonicalNames
 pub mod Cut
-pub mod CutLaws
 pub mod Kind
 pub mod Name
-pub mod Sizes
-pub mod NameLaws
-pub mod CanonicalNames

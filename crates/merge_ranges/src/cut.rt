@@ -1,9 +1,9 @@
 ghost use Rattle.std.specs.Prelude.{◌≡◌, ℕ, ◌<◌, ◌≤◌, ◌↔◌, ◌+◌, ◌%◌, ◌==◌, ◌&&◌, nat_le, List, [], true, false, None, IfOk, IfSome};
 ghost use Rattle.agg_model.specs.declared.entity.Range.{Range};
-ghost use Rattle.merge_ranges.specs.CutLaws.{HasAll, IsUnionIn};
-ghost use Rattle.merge_ranges.specs.Cut.{IsCut, is_size, is_aligned, size_at, canon, end_of, is_to_merge, next_merge_of, contains_range, meets_any};
+ghost use Rattle.merge_ranges.specs.CanonicalNames.{RangesAscend};
+ghost use Rattle.merge_ranges.specs.Cut.{IsCut, HasAll, IsUnionIn, is_size, is_aligned, size_at, canon, end_of, is_to_merge, next_merge_of, contains_range, meets_any};
 
-use agg_model::{Entity, Range};
+use agg_model::{Entity, Range, STEPS_MOST};
 use agg_outside::{ListOf, Memory};
 use std::alloc::Global;
 
@@ -69,7 +69,7 @@ fn is_length(n: u64) -> bool
 pub fn is_aligned_range(range: Range) -> bool
     ensures { result ≡ is_aligned range }
 {
-    if range.to <= range.from || range.to > 4096 {
+    if range.to <= range.from || range.to > STEPS_MOST {
         return false;
     }
     let length = range.to - range.from;
@@ -79,7 +79,7 @@ pub fn is_aligned_range(range: Range) -> bool
 /// The cut of the steps below `m` that takes, from the left, always the longest aligned range that
 /// fits.
 pub fn canon_cut(alloc: Global, m: u64) -> Result<Cut, Memory>
-    requires { m ≤ 4096 }
+    requires { m ≤ STEPS_MOST }
     ensures { IfOk result (λ cut. cut ≡ canon m) }
 {
     let mut cut = ListOf::new(alloc);
@@ -159,10 +159,12 @@ pub fn next_merge(cut: &Cut, busy: &Cut) -> Option<Range>
 
 /// What holds of the canonical cuts.
 pub fn canon_laws()
-    ensures cut { (m : ℕ) → m ≤ 4096 → IsCut (canon m) }
+    ensures cut { (m : ℕ) → m ≤ STEPS_MOST → IsCut (canon m) }
     ensures end { (m : ℕ) → end_of (canon m) ≡ m }
     // Each cut is a finer one.
     ensures union { (cut : List Range) (r : Range) → IsCut cut →
         contains_range (canon (end_of cut)) r ≡ true → contains_range cut r ≡ false → IsUnionIn cut r }
+    // Each range of a cut begins before all later ones.
+    ensures ascend { (cut : List Range) → IsCut cut → RangesAscend cut }
     ensures whole { (cut : List Range) → IsCut cut → HasAll cut (canon (end_of cut)) → cut ≡ canon (end_of cut) }
 {}

@@ -1,10 +1,10 @@
-ghost use Rattle.std.specs.Prelude.{◌≡◌, ◌*◌, ◌++◌, List, length, ◌<◌, ◌^◌, IsTrue, IfOk, IfSome, OnOk, OnErr, Some, decimal};
+ghost use Rattle.std.specs.Prelude.{◌≡◌, ◌≢◌, ◌*◌, ◌++◌, Bool, List, AllPairs, filter, length, ◌<◌, ◌^◌, IsTrue, IfOk, IfSome, OnOk, OnErr, Some, decimal};
 ghost use Rattle.agg_model.specs.declared.entity.Entity.{Entity};
 ghost use Rattle.agg_model.specs.declared.entity.Range.{Range};
 ghost use Rattle.agg_model.specs.declared.entity.FileKind.{FileKind};
 ghost use Rattle.merge_ranges.specs.Cut.{is_size, is_aligned};
 ghost use Rattle.agg_model.specs.Entity.{entity_name};
-ghost use Rattle.merge_ranges.specs.CanonicalNames.{names_over};
+ghost use Rattle.merge_ranges.specs.CanonicalNames.{NamesAscend, RangesAscend, entity_names, names_over};
 ghost use Rattle.merge_ranges.specs.Kind.{ending};
 ghost use Rattle.merge_ranges.specs.Name.{has_kind, is_name, spelled, spelled_on_disk, on_disk_of, range_and_kind};
 ghost use Rattle.merge_ranges.specs.declared.name.FileName.{FileName};
@@ -195,4 +195,11 @@ impl DiskName {
 pub fn name_laws()
     ensures apart { (n o : FileName) → IsTrue (is_name n) → IsTrue (is_name o) → spelled n ≡ spelled o → n ≡ o }
     ensures count { (ranges : List Range) → length (names_over ranges) ≡ 29 * length ranges }
+
+    // Over ranges that ascend, the names of one entity ascend, those of all entities do, and what is
+    // kept of them does.
+    ensures entity { (e : Entity) (ranges : List Range) → RangesAscend ranges → NamesAscend (entity_names e ranges) }
+    ensures ascend { (ranges : List Range) → RangesAscend ranges → NamesAscend (names_over ranges) }
+    ensures kept { (p : FileName → Bool) (names : List FileName) → NamesAscend names → NamesAscend (filter p names) }
+    ensures distinct { (names : List FileName) → NamesAscend names → AllPairs (λ n o. n ≢ o) names }
 {}

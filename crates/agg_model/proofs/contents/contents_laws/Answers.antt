@@ -1,5 +1,5 @@
-use Rattle.agg_model.specs.ContentsLaws.{kv_contents-later, v_contents-later, ef_contents-later, kv_contents-ArePairs, changes_over-arranged}
-use Rattle.agg_model.specs.LastChangesLaws.{kv_contents-step_pairs}
+use Rattle.agg_model.proofs.ContentsLaws.{kv_contents-later, v_contents-later, ef_contents-later, kv_contents-ArePairs, changes_over-arranged}
+use Rattle.agg_model.proofs.LastChangesLaws.{kv_contents-step_pairs}
 use Rattle.agg_model.proofs.contents.contents_laws.Goals as goal
 
 pub returns-clause-kv_stays : goal.returns-clause-kv_stays

@@ -1,4 +1,4 @@
-use Rattle.agg_model.specs.CoverageLaws.{value_at-files, step_files-later}
+use Rattle.agg_model.proofs.CoverageLaws.{value_at-files, step_files-later}
 use Rattle.agg_model.proofs.contents.coverage_laws.Goals as goal
 
 pub returns-clause-value : goal.returns-clause-value

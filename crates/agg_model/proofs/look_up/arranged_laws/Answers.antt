@@ -1,4 +1,4 @@
-use Rattle.agg_model.specs.ArrangedLaws.{arranged-append, arranged-IsPermutation, arranged-Ascend}
+use Rattle.agg_model.proofs.ArrangedLaws.{arranged-append, arranged-IsPermutation, arranged-Ascend}
 use Rattle.agg_model.proofs.look_up.arranged_laws.Goals as goal
 
 pub returns-clause-append : goal.returns-clause-append

@@ -1,4 +1,4 @@
-use Rattle.agg_model.specs.ArrangedLaws.{value_at-arranged}
+use Rattle.agg_model.proofs.ArrangedLaws.{value_at-arranged}
 use Rattle.agg_model.proofs.look_up.look_up_law.Goals as goal
 
 pub returns : goal.returns

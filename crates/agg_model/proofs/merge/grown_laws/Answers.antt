@@ -1,4 +1,4 @@
-use Rattle.agg_model.specs.GrownLaws.{grown-IsChangeList, value_at-later}
+use Rattle.agg_model.proofs.GrownLaws.{grown-IsChangeList, value_at-later}
 use Rattle.agg_model.proofs.merge.grown_laws.Goals as goal
 
 pub returns-clause-list : goal.returns-clause-list

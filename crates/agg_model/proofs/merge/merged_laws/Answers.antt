@@ -1,4 +1,4 @@
-use Rattle.agg_model.specs.MergedLaws.{merged-HasNoRepeats, merged-IsBatch, value_at-merged, next_of-merged, merged-content, merged-empty}
+use Rattle.agg_model.proofs.MergedLaws.{merged-HasNoRepeats, merged-IsBatch, value_at-merged, next_of-merged, merged-content, merged-empty}
 use Rattle.agg_model.proofs.merge.merged_laws.Goals as goal
 
 pub returns-clause-no_repeats : goal.returns-clause-no_repeats

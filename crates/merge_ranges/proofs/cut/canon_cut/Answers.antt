@@ -1,6 +1,6 @@
 use Rattle.std.proofs.Common.{◌+◌, ◌++◌, ◌∷◌, [], suc, ◌∙◌, ap, arith}
 use Rattle.merge_ranges.specs.Cut.{canon, canon_from}
-use Rattle.merge_ranges.specs.CutLaws.{canon_from-most}
+use Rattle.merge_ranges.proofs.CutLaws.{canon_from-most}
 use Rattle.merge_ranges.proofs.Walks.{cut-step, range_at}
 use Rattle.merge_ranges.proofs.cut.canon_cut.Goals as goal
 

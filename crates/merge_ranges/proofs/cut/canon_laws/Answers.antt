@@ -1,4 +1,5 @@
-use Rattle.merge_ranges.specs.CutLaws.{canon-IsCut, end_of-canon, union_of_two, canon_of_all}
+use Rattle.merge_ranges.proofs.CutLaws.{canon-IsCut, end_of-canon, union_of_two, canon_of_all}
+use Rattle.merge_ranges.proofs.NameOrder.{cut-ascend}
 use Rattle.merge_ranges.proofs.cut.canon_laws.Goals as goal
 
 pub returns-clause-cut : goal.returns-clause-cut
@@ -12,3 +13,6 @@ returns-clause-union c = union_of_two
 
 pub returns-clause-whole : goal.returns-clause-whole
 returns-clause-whole c = canon_of_all
+
+pub returns-clause-ascend : goal.returns-clause-ascend
+returns-clause-ascend c = cut-ascend

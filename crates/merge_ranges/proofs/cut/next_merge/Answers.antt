@@ -1,7 +1,7 @@
 use Rattle.std.proofs.Common.{◌+◌, suc, cond, find, Some, None, Option, ◌≡◌, sym, ◌∙◌, ap, arith}
 use Rattle.agg_model.specs.declared.entity.Range.{Range}
 use Rattle.merge_ranges.specs.Cut.{canon, canon_from, next_merge_of, is_to_merge}
-use Rattle.merge_ranges.specs.CutLaws.{canon_from-most, answer-union, answer-settled}
+use Rattle.merge_ranges.proofs.CutLaws.{canon_from-most, answer-union, answer-settled}
 use Rattle.merge_ranges.proofs.Walks.{find-step, range_at}
 use Rattle.merge_ranges.proofs.cut.next_merge.Goals as goal
 use Rattle.merge_ranges.proofs.cut.next_merge.Goals.{Then-is_free}

@@ -1,7 +1,8 @@
 use Rattle.std.proofs.Common.{◌≡◌, ◌≢◌, ℕ, ◌+◌, ◌<◌, ◌≤◌, List, Bool, true, false, nat_lt, Some, refl, sym, ◌∙◌, ap, arith, ltb-true, ltb-false}
 use Rattle.std.specs.Cmp.Lexicographic.{bytes_decides}
 use Rattle.std.proofs.lemmas.Bool.{false≢true}
-use Rattle.merge_ranges.specs.Kind.{kind_number, ending, kind_number-injective, kind_number-below, ending-injective}
+use Rattle.merge_ranges.specs.Kind.{kind_number, ending}
+use Rattle.merge_ranges.proofs.KindLaws.{kind_number-injective, kind_number-below, ending-injective}
 use Rattle.agg_model.specs.declared.entity.FileKind.{FileKind}
 use Rattle.merge_ranges.proofs.kind.kind_of.Goals as goal
 

@@ -1,7 +1,7 @@
 use Rattle.std.proofs.Common.{◌++◌, ◌∷◌, sym, ◌∙◌}
 use Rattle.agg_model.specs.Entity.{entity_name}
 use Rattle.merge_ranges.specs.Name.{range_and_kind}
-use Rattle.merge_ranges.specs.NameLaws.{entity_name-without, spelled-parts, from_small, to_small}
+use Rattle.merge_ranges.proofs.NameLaws.{entity_name-without, spelled-parts, from_small, to_small}
 use Rattle.merge_ranges.proofs.Names.{joined}
 use Rattle.merge_ranges.proofs.name.read_any.Goals as goal
 

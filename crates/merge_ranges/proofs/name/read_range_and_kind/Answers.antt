@@ -1,7 +1,7 @@
 use Rattle.std.specs.Prelude.{decimal}
 use Rattle.std.proofs.Common.{◌++◌, ◌∷◌, ◌<◌, sym, arith}
 use Rattle.merge_ranges.specs.Kind.{ending}
-use Rattle.merge_ranges.specs.NameLaws.{decimal-without}
+use Rattle.merge_ranges.proofs.NameLaws.{decimal-without}
 use Rattle.merge_ranges.proofs.name.read_range_and_kind.Goals as goal
 
 dash_low : 45 < 48

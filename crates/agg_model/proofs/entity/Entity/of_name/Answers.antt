@@ -1,7 +1,8 @@
 use Rattle.std.proofs.Common.{◌≡◌, ◌≢◌, ℕ, ◌+◌, ◌<◌, ◌≤◌, List, Bool, true, false, nat_lt, Some, refl, sym, ◌∙◌, ap, arith, ltb-true, ltb-false}
 use Rattle.std.specs.Cmp.Lexicographic.{bytes_decides}
 use Rattle.std.proofs.lemmas.Bool.{false≢true}
-use Rattle.agg_model.specs.Entity.{entity_number, entity_name, entity_number-injective, entity_number-below, entity_name-injective}
+use Rattle.agg_model.specs.Entity.{entity_number, entity_name}
+use Rattle.agg_model.proofs.EntityLaws.{entity_number-injective, entity_number-below, entity_name-injective}
 use Rattle.agg_model.specs.declared.entity.Entity.{Entity}
 use Rattle.agg_model.proofs.entity.Entity.of_name.Goals as goal
 

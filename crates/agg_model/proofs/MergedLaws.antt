@@ -10,11 +10,11 @@ use Rattle.std.proofs.lemmas.List.Elements.{All-cons, All-head, All-tail, All-ni
 use Rattle.agg_model.specs.declared.entity.Entity.{Entity}
 use Rattle.agg_model.specs.declared.change.Change.{Change}
 use Rattle.agg_model.specs.Place.{Place, place, place_of, is_same_place, is_of}
-use Rattle.agg_model.specs.PlaceOrder.{is_same_place-true, is_same_place-itself, place_of-is_of}
+use Rattle.agg_model.proofs.PlaceOrder.{is_same_place-true, is_same_place-itself, place_of-is_of}
 use Rattle.agg_model.specs.ChangeList.{last_where, last_change, value_at, value_of, is_of_before, next_of}
 use Rattle.agg_model.specs.Batch.{AscendFrom, HasNoRepeats, IsBatch, IsChange, content_of}
 use Rattle.agg_model.specs.Merged.{put_over, merged_from, merged}
-use Rattle.agg_model.specs.ArrangedLaws.{last_where-append, option_or-none, option_or-assoc}
+use Rattle.agg_model.proofs.ArrangedLaws.{last_where-append, option_or-none, option_or-assoc}
 
 pub merged_from-append : (acc cs ds : List Change) → merged_from acc (cs ++ ds) ≡ merged_from (merged_from acc cs) ds
 merged_from-append acc [] ds = refl

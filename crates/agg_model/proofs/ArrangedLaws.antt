@@ -8,7 +8,7 @@ use Rattle.std.proofs.lemmas.List.Sorted.{IsPermutation-refl, IsPermutation-cons
 use Rattle.agg_model.specs.declared.entity.Entity.{Entity}
 use Rattle.agg_model.specs.declared.change.Change.{Change}
 use Rattle.agg_model.specs.Place.{Place, place, place_of, is_before, is_of}
-use Rattle.agg_model.specs.PlaceOrder.{is_before-back, is_before-else, is_before-chain, not_before-chain, is_before-place, place_of-is_of, is_before-other}
+use Rattle.agg_model.proofs.PlaceOrder.{is_before-back, is_before-else, is_before-chain, not_before-chain, is_before-place, place_of-is_of, is_before-other}
 use Rattle.agg_model.specs.ChangeList.{last_where, last_change, value_at, value_of, is_of_before}
 use Rattle.agg_model.specs.Batch.{AscendFrom, HasNoRepeats}
 use Rattle.agg_model.specs.Arranged.{put_in, arranged_from, arranged, Ascend, last_before, value_for}

@@ -21,8 +21,8 @@ use Rattle.agg_model.specs.Place.{place_of, place_cmp, is_before, is_of}
 use Rattle.agg_model.specs.Batch.{IsKey, IsValue, IsChange, HasValue}
 use Rattle.agg_model.specs.ChangeList.{value_at, last_change, value_of, value_of_act, is_of_before}
 use Rattle.agg_model.specs.Arranged.{put_in, arranged_from, arranged}
-use Rattle.agg_model.specs.ArrangedLaws.{IsInOrder, put_in-IsInOrder, before-behind, arranged-IsInOrder, arranged-IsPermutation, last_where-All}
-use Rattle.agg_model.specs.GrownLaws.{value_at-later}
+use Rattle.agg_model.proofs.ArrangedLaws.{IsInOrder, put_in-IsInOrder, before-behind, arranged-IsInOrder, arranged-IsPermutation, last_where-All}
+use Rattle.agg_model.proofs.GrownLaws.{value_at-later}
 use Rattle.agg_model.specs.Contents.{is_within, is_of_within, changes_over, goes_on, keys_of, word_of, pair_at, kv_contents, before_of, v_contents, times, ef_contents}
 use Rattle.agg_model.specs.Pairs.{IsBelow, KeysAscend, pair_keys, IsPair, ArePairs}
 

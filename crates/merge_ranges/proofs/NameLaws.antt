@@ -14,7 +14,7 @@ use Rattle.agg_model.specs.declared.entity.FileKind.TheVariants.{Kv, Bt, Kvi, V,
 use Rattle.merge_ranges.specs.declared.name.FileName.{FileName}
 use Rattle.merge_ranges.specs.Kind.{ending}
 use Rattle.merge_ranges.specs.Cut.{is_aligned}
-use Rattle.merge_ranges.specs.CutLaws.{aligned_from}
+use Rattle.merge_ranges.proofs.CutLaws.{aligned_from}
 use Rattle.merge_ranges.specs.Name.{is_name, spelled, range_and_kind}
 
 -- ---- no part has the mark that ends it

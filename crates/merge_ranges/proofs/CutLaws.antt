@@ -5,8 +5,8 @@ use Rattle.std.proofs.lemmas.Bool.{false≢true, leb-true, le-leb}
 use Rattle.std.specs.Cmp.{first_so, second_so}
 use Rattle.std.specs.List.{list_any}
 use Rattle.agg_model.specs.declared.entity.Range.{Range}
-use Rattle.merge_ranges.specs.Cut.{is_size, is_aligned, IsCutFrom, IsCut, end_from, end_of, size_at, largest_at, canon_from, canon, same_range, contains_range, meets_any, is_to_merge, next_merge_of}
-use Rattle.merge_ranges.specs.Sizes.{size_at-fits, size_above_zero, stays_within}
+use Rattle.merge_ranges.specs.Cut.{IsUnionIn, HasAll, is_size, is_aligned, IsCutFrom, IsCut, end_from, end_of, size_at, largest_at, canon_from, canon, same_range, contains_range, meets_any, is_to_merge, next_merge_of}
+use Rattle.merge_ranges.proofs.Sizes.{size_at-fits, size_above_zero, stays_within}
 
 -- ---- aligned ranges
 
@@ -155,16 +155,6 @@ contained_from a (r ∷ rs) g h any =
 
 -- ---- unions
 
--- the range is the union of ranges that stand together in the cut
-pub record IsUnionIn (cut : List Range) (g : Range) : Type 0 where
-  pub front : List Range
-  pub mid : List Range
-  pub back : List Range
-  pub parts : cut ≡ front ++ (mid ++ back)
-  pub chain : IsCutFrom g.from mid
-  pub ends : end_from g.from mid ≡ g.to
-  pub several : 2 ≤ length mid
-
 -- a cut from b on to m, taken apart at e
 record IsPart (b e m : ℕ) (cut : List Range) : Type 0 where
   mid : List Range
@@ -294,11 +284,6 @@ unfolding canon
 union_of_two cut g chain any none = union_from (end_of cut) 0 (end_of cut) cut g chain refl any none
 
 -- ---- a cut with all ranges of the canonical cut is it
-
--- each of the ranges is in the cut
-abbrev pub HasAll : List Range → List Range → Type 0
-HasAll cut [] = Unit {0}
-HasAll cut (g ∷ gs) = (contains_range cut g ≡ true) × HasAll cut gs
 
 all_later : (a b : ℕ) (r : Range) (rs gs : List Range) → r.from ≡ a → a < b → IsCutFrom b gs → HasAll (r ∷ rs) gs → HasAll rs gs
 all_later a b r rs [] starts up chain all = tt

@@ -8,7 +8,7 @@ use Rattle.agg_model.specs.declared.change.Change.{Change}
 use Rattle.agg_model.specs.Place.{Place, place_of, is_of}
 use Rattle.agg_model.specs.ChangeList.{ChangeList, IsChangeList, grown, next_of, last_where, last_change, value_at, value_of, is_of_before}
 use Rattle.agg_model.specs.Batch.{AscendFrom, HasNoRepeats, IsBatch, IsChange}
-use Rattle.agg_model.specs.ArrangedLaws.{last_where-append}
+use Rattle.agg_model.proofs.ArrangedLaws.{last_where-append}
 
 le_chain : {a b c : ℕ} → a ≤ b → b ≤ c → a ≤ c
 le_chain h g = omega arith

@@ -14,15 +14,15 @@ use Rattle.agg_model.specs.declared.change.Change.{Change}
 use Rattle.agg_model.specs.declared.contents.Pair.{Pair}
 use Rattle.agg_model.specs.Entity.{entity_number}
 use Rattle.agg_model.specs.Place.{place_of, is_before, is_of}
-use Rattle.agg_model.specs.PlaceOrder.{place_of-is_of, is_before-place}
+use Rattle.agg_model.proofs.PlaceOrder.{place_of-is_of, is_before-place}
 use Rattle.agg_model.specs.Batch.{AscendFrom}
 use Rattle.agg_model.specs.ChangeList.{last_where, value_at, value_of}
 use Rattle.agg_model.specs.Arranged.{put_in, arranged_from, arranged}
-use Rattle.agg_model.specs.ArrangedLaws.{IsInOrder, put_in-IsInOrder, put_in-IsPermutation, later, last_where-All, last_where-passes, last_where-put_in, last_where-put_in-other, option_or-none, option_or-assoc}
-use Rattle.agg_model.specs.GrownLaws.{AscendFrom-lower}
+use Rattle.agg_model.proofs.ArrangedLaws.{IsInOrder, put_in-IsInOrder, put_in-IsPermutation, later, last_where-All, last_where-passes, last_where-put_in, last_where-put_in-other, option_or-none, option_or-assoc}
+use Rattle.agg_model.proofs.GrownLaws.{AscendFrom-lower}
 use Rattle.agg_model.specs.Contents.{is_within, is_of_within, changes_over, goes_on, keys_of, word_of, pair_at, kv_contents}
-use Rattle.agg_model.specs.ContentsLaws.{KeysRise, ends_below, changes_over-All, changes_over-KeysRise}
-use Rattle.agg_model.specs.CoverageLaws.{value_at-split}
+use Rattle.agg_model.proofs.ContentsLaws.{KeysRise, ends_below, changes_over-All, changes_over-KeysRise}
+use Rattle.agg_model.proofs.CoverageLaws.{value_at-split}
 use Rattle.agg_model.specs.Pairs.{IsBelow, hot_change, value_over}
 use Rattle.agg_model.specs.LastChanges.{last_changes, pair_of, step_pairs}
 

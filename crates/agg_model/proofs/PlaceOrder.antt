@@ -4,20 +4,13 @@ use Rattle.std.proofs.Common.{sym, ◌∙◌, ap, eqb-true}
 use Rattle.std.specs.declared.cmp.Ordering.{Ordering}
 use Rattle.std.specs.declared.cmp.Ordering.TheVariants.{Less, Equal, Greater}
 use Rattle.std.specs.Ordering.{nat_cmp, ordering_then, ordering_reverse, is_lt, is_gt, is_eq}
-use Rattle.std.specs.Cmp.{IsTotalOrder, then_total, on_total, nat_cmp_total, tied_itself, upto, unsigned_tied, first_so, second_so}
+use Rattle.std.specs.Cmp.{nat_cmp_total, tied_itself, upto, unsigned_tied, first_so, second_so}
 use Rattle.std.specs.Cmp.Lexicographic.{slice_cmp, nat_list_cmp_total, texts_ties, bytes_decides}
 use Rattle.std.specs.FinMap.{nat_cmp-IsAntisymmetric, slice_cmp-IsAntisymmetric}
 use Rattle.agg_model.specs.Entity.{entity_number}
-use Rattle.agg_model.specs.Place.{Place, place, place_of, place_cmp, is_before, is_same_place, is_of}
+use Rattle.agg_model.specs.Place.{Place, place, place_of, place_cmp, place_cmp_total, is_before, is_same_place, is_of}
 use Rattle.agg_model.specs.declared.entity.Entity.{Entity}
 use Rattle.agg_model.specs.declared.change.Change.{Change}
-
-pub place_cmp_total : IsTotalOrder place_cmp
-unfolding place_cmp
-place_cmp_total =
-    then_total
-    (on_total (λ (p : Place). p.entity) nat_cmp_total)
-    (then_total (on_total (λ (p : Place). p.key) nat_list_cmp_total) (on_total (λ (p : Place). p.number) nat_cmp_total))
 
 -- ---- parts of an answer of the order
 

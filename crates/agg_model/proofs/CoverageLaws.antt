@@ -15,10 +15,10 @@ use Rattle.agg_model.specs.Place.{place, is_of}
 use Rattle.agg_model.specs.Batch.{AscendFrom, IsChange, IsValue}
 use Rattle.agg_model.specs.ChangeList.{last_where, last_change, value_at, value_of, is_of_before}
 use Rattle.agg_model.specs.Arranged.{arranged, last_before}
-use Rattle.agg_model.specs.ArrangedLaws.{option_or-none, option_or-assoc, last_where-passes, only_of, last_change-arranged, arranged-IsPermutation}
-use Rattle.agg_model.specs.GrownLaws.{late, none_late, AscendFrom-All}
+use Rattle.agg_model.proofs.ArrangedLaws.{option_or-none, option_or-assoc, last_where-passes, only_of, last_change-arranged, arranged-IsPermutation}
+use Rattle.agg_model.proofs.GrownLaws.{late, none_late, AscendFrom-All}
 use Rattle.agg_model.specs.Contents.{is_within, is_of_within, changes_over, goes_on, keys_of, word_of, pair_at, kept_keys, kv_contents}
-use Rattle.agg_model.specs.ContentsLaws.{kv_contents-later, value_at-fits}
+use Rattle.agg_model.proofs.ContentsLaws.{kv_contents-later, value_at-fits}
 use Rattle.agg_model.specs.Pairs.{word_in, newest_word, held_value, step_files, hot_change, value_over, only_from}
 
 -- ---- the last change of a key: hot, or before the hot ones
