@@ -1,0 +1,5 @@
+pub mod Changes
+pub mod Errors
+pub mod Places
+pub mod Seen
+pub mod Versions
