@@ -35,7 +35,7 @@ abbrev pub rows_before : RowId → List Row → List Row
 rows_before p rows = filter (λ row. is_before row.id p) rows
 
 -- rows after an id are not before it
-rows_before-none : (p low : RowId) (rows : List Row) → is_before low p ≡ false → ascends_after low rows ≡ true → rows_before p rows ≡ []
+pub rows_before-none : (p low : RowId) (rows : List Row) → is_before low p ≡ false → ascends_after low rows ≡ true → rows_before p rows ≡ []
 rows_before-none p low [] n s = refl
 rows_before-none p low (row ∷ rows) n s =
     let parts = both _ _ s in
@@ -200,32 +200,16 @@ module _ (epoch : ℕ) (e : Entity) (k : List ℕ) (from to : ℕ) where
   inside_by true b h g = cc h
   inside_by false b h g = g
 
-  -- a change of the window is one of the entity
-  window_entity : (r : Row) → is_of_within e k from to (change_of r) ≡ true → entity_of r.id.entity ≡ e
-  unfolding is_of_within is_of change_of
-  window_entity r h =
-      entity_number-injective (entity_of r.id.entity) e
-      (eqb-true (entity_number (entity_of r.id.entity)) (entity_number e)
-      (first_so (entity_number (entity_of r.id.entity) == entity_number e) (pointwise nat_eq r.id.key k) (first_so _ _ h)))
-
-  change_in-entity : (r : Row) → entity_of r.id.entity ≡ e → (record { tx = r.id.tx; entity = e; key = r.id.key; act = act_of r.act r.value }) ≡ change_of r
-  unfolding change_of
-  change_in-entity r same = λ i. record { tx = r.id.tx; entity = sym same i; key = r.id.key; act = act_of r.act r.value }
-
   -- the row that is found is seen
-  pub still_seen : (rows : List Row) (p : RowId) (r : Row) → ascends rows ≡ true → r.id.entity ≤ 6 → StillLast rows p → last_before p rows ≡ Some r → is_before r.id low ≡ false → is_seen epoch r ≡ true
-      → (last_of rows ≡ Some (change_of r)) × ((record { tx = r.id.tx; entity = e; key = r.id.key; act = act_of r.act r.value }) ≡ change_of r)
+  pub still_seen : (rows : List Row) (p : RowId) (r : Row) → ascends rows ≡ true → r.id.entity ≤ 6 → StillLast rows p → last_before p rows ≡ Some r → is_before r.id low ≡ false → is_seen epoch r ≡ true → last_of rows ≡ Some (change_of r)
   still_seen rows p r s known_r still found above see =
       let is = rows_before-found p rows r s found in
       let top : is_before r.id high ≡ true = before_then_not r.id p high is.before still.within in
       let inside : is_of_within e k from to (change_of r) ≡ true = is_of_within-places e k from to r known_r ∙ inside_by _ _ above top in
-      (
-        sym still.rest
-        ∙ ap (λ (l : List Row). last_of l) is.others
-        ∙ last_of-append (rows_before r.id rows) (r ∷ [])
-        ∙ ap (λ o. option_or o (last_of (rows_before r.id rows))) (alone_by r true true see inside),
-        change_in-entity r (window_entity r inside),
-      )
+      sym still.rest
+      ∙ ap (λ (l : List Row). last_of l) is.others
+      ∙ last_of-append (rows_before r.id rows) (r ∷ [])
+      ∙ ap (λ o. option_or o (last_of (rows_before r.id rows))) (alone_by r true true see inside)
 
   -- it isn't, so it doesn't matter
   pub still_unseen : (rows : List Row) (p : RowId) (r : Row) → ascends rows ≡ true → StillLast rows p → last_before p rows ≡ Some r → is_seen epoch r ≡ false → StillLast rows r.id

@@ -15,6 +15,7 @@ use Rattle.agg_outside.specs.declared.rows.Row.{Row}
 use Rattle.agg_outside.specs.Rows.{id_cmp, is_before, is_same, ascends_after, ascends, last_or, first_from, last_before, rows_from}
 use Rattle.agg_outside.specs.RowOrder.{id_cmp_total, before_itself, before_trans, before_not_back, after-get_or, ascends-after, ascends_after-before, rows_from-place, none_before-from}
 use Rattle.agg_model.specs.declared.entity.Entity.{Entity}
+use Rattle.agg_model.specs.declared.entity.Entity.TheVariants.{Accounts, Storage, Code, LogAddrs, LogTopics, TracesFrom, TracesTo}
 use Rattle.agg_model.specs.Entity.{entity_number}
 use Rattle.agg_model.specs.Place.{is_of}
 use Rattle.agg_model.specs.Contents.{is_of_within, is_within}
@@ -33,6 +34,16 @@ entity_number-entity_of (suc (suc (suc (suc zero)))) h = refl
 entity_number-entity_of (suc (suc (suc (suc (suc zero))))) h = refl
 entity_number-entity_of (suc (suc (suc (suc (suc (suc zero)))))) h = refl
 entity_number-entity_of (suc (suc (suc (suc (suc (suc (suc n))))))) h = absurd (omega arith)
+
+pub entity_back : (e : Entity) → entity_of (entity_number e) ≡ e
+unfolding entity_of entity_number
+entity_back Accounts = refl
+entity_back Storage = refl
+entity_back Code = refl
+entity_back LogAddrs = refl
+entity_back LogTopics = refl
+entity_back TracesFrom = refl
+entity_back TracesTo = refl
 
 -- ---- the id behind another
 
@@ -254,7 +265,7 @@ le_not-by a b true false e f = refl
 le_not-by a b false true e f = refl
 le_not-by a b false false e f = let h : a ≤ b = ltb-false b a e in let g : b < a = leb-false a b f in absurd (omega arith)
 
-le_not : (a b : ℕ) → nat_le a b ≡ not (nat_lt b a)
+pub le_not : (a b : ℕ) → nat_le a b ≡ not (nat_lt b a)
 le_not a b = le_not-by a b (nat_lt b a) (nat_le a b) refl refl
 
 window_by : (r s : Ordering) (from to tx : ℕ) (t u : Ordering) → is_lt t ≡ false → is_lt u ≡ false

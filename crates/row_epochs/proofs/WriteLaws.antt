@@ -17,7 +17,6 @@ use Rattle.agg_outside.specs.Rows as rows
 use Rattle.agg_outside.specs.Rows.{id_cmp, is_same, ascends, ascends_after, insert_row, kill_row, remove_row, row_at, Held, written, applied, CanWrite, CanApply}
 use Rattle.agg_outside.specs.RowOrder.{same_is, same_itself, insert-ascends, kill-ascends, ascends-after, ascends_after-before, before_trans, before_then_not, before_not_back, before_not_same, kill-after, remove-after, after_not_same, applied-ascends}
 use Rattle.agg_model.specs.declared.entity.Entity.{Entity}
-use Rattle.agg_model.specs.declared.entity.Entity.TheVariants.{Accounts, Storage, Code, LogAddrs, LogTopics, TracesFrom, TracesTo}
 use Rattle.agg_model.specs.declared.change.Act.{Act}
 use Rattle.agg_model.specs.declared.change.Act.TheVariants.{Put, Del, Mark}
 use Rattle.agg_model.specs.declared.change.Change.{Change}
@@ -33,23 +32,13 @@ use Rattle.row_epochs.specs.Seen.{is_seen, seen, shown, view, SameUpTo, SameFrom
 use Rattle.row_epochs.specs.Changes.{IsNew, entity_of, act_of, change_of, changes_seen, id_born, row_born, writes_of, kills_of}
 use Rattle.row_epochs.specs.Versions.{IsVersion, AreApart, AllApart, AreVersions, IsAlive}
 use Rattle.row_epochs.specs.Places.{ids_of}
-use Rattle.row_epochs.proofs.RowWalks.{entity_number-entity_of}
+use Rattle.row_epochs.proofs.RowWalks.{entity_back, entity_number-entity_of}
 
 both : (a b : Bool) → (cond a b false) ≡ true → (a ≡ true) × (b ≡ true)
 both true b h = (refl, h)
 both false b h = cc h
 
 -- ---- a change and its row
-
-entity_back : (e : Entity) → entity_of (entity_number e) ≡ e
-unfolding entity_of entity_number
-entity_back Accounts = refl
-entity_back Storage = refl
-entity_back Code = refl
-entity_back LogAddrs = refl
-entity_back LogTopics = refl
-entity_back TracesFrom = refl
-entity_back TracesTo = refl
 
 act_back : (a : Act) → act_of (act_number a) (act_value a) ≡ a
 unfolding act_of
@@ -120,7 +109,7 @@ seen_is epoch row h = seen_is_by epoch row (nat_le row.id.born epoch) (row.kille
 
 -- ---- filters
 
-filter_agree-on : (p q : Row → Bool) (rs : List Row) → All (λ r. p r ≡ q r) rs → filter p rs ≡ filter q rs
+pub filter_agree-on : (p q : Row → Bool) (rs : List Row) → All (λ r. p r ≡ q r) rs → filter p rs ≡ filter q rs
 filter_agree-on p q [] h = refl
 filter_agree-on p q (r ∷ rs) h =
     let rest : filter p rs ≡ filter q rs = filter_agree-on p q rs (All-tail (λ r. p r ≡ q r) r rs h) in
@@ -735,7 +724,7 @@ ascends-filter-by : (p : Row → Bool) (r : Row) (rs : List Row) (t : Bool) → 
 ascends-filter-by p r rs true s rest = ascends_after-filter p r.id rs s
 ascends-filter-by p r rs false s rest = rest
 
-ascends-filter : (p : Row → Bool) (rs : List Row) → ascends rs ≡ true → ascends (filter p rs) ≡ true
+pub ascends-filter : (p : Row → Bool) (rs : List Row) → ascends rs ≡ true → ascends (filter p rs) ≡ true
 ascends-filter p [] s = refl
 ascends-filter p (r ∷ rs) s = ascends-filter-by p r rs (p r) s (ascends-filter p rs (ascends-after r.id rs s))
 

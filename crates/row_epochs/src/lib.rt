@@ -3,9 +3,12 @@
 #![tactic(auto)]
 
 mod error;
+mod places;
 mod rows;
 mod scan;
+mod shared;
 mod writes;
 
 pub use error::RowsError;
+pub use places::{behind, change_of, first_place, is_before, is_seen, next_piece, place_at};
 pub use rows::Rows;

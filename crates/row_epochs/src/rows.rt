@@ -8,6 +8,7 @@ ghost use Rattle.agg_model.specs.Pairs.{hot_change};
 ghost use Rattle.row_epochs.specs.Errors.{IsWorn, IsUnworn};
 ghost use Rattle.row_epochs.specs.Seen.{seen, view, SameUpTo, SameFrom, dead, without_dead};
 ghost use Rattle.row_epochs.specs.Changes.{IsNew, changes_seen, writes_of, kills_of};
+ghost use Rattle.row_epochs.specs.Starts.{MayBecome};
 ghost use Rattle.row_epochs.specs.Versions.{AreVersions, IsAlive};
 
 use crate::error::RowsError;
@@ -56,7 +57,7 @@ fn raised(epoch: u64) -> Result<u64, RowsError>
 impl<K: Keeper> Rows<K> {
     pub fn of(keeper: K, epoch: u64) -> Rows<K>
         requires epoch { epoch ≤ 2 ^ 62 }
-        requires rows { ForSome (K.held keeper) (AreVersions epoch) }
+        requires rows { ForSome (K.held keeper) (λ h. MayBecome epoch h.rows) }
         ensures { result ≡ record { told = K.held keeper; epoch = epoch; faults = K.faults keeper } }
     {
         Rows { keeper, epoch }
@@ -84,6 +85,7 @@ impl<K: Keeper> Rows<K> {
         ensures err { OnErr result (self.new ≡ self.old) }
         ensures worn { IsWorn result ↔ (self.old.epoch ≡ 2 ^ 62) }
         ensures only { OnErr result (IsWorn result) }
+        ensures sound { IfSome self.new.told (AreVersions self.new.epoch) }
     {
         self.epoch = raised(self.epoch)?;
         Ok(())
@@ -102,6 +104,7 @@ impl<K: Keeper> Rows<K> {
         ensures err { OnErr result (self.new ≡ record self.old { faults = self.new.faults }) }
         ensures worn { IsWorn result ↔ (self.old.epoch ≡ 2 ^ 62) }
         ensures cause { HasCause RowsError.Keeper self.old.faults self.new.faults result }
+        ensures sound { IfSome self.new.told (AreVersions self.new.epoch) }
     {
         let epoch = raised(self.epoch)?;
         let writes = inserts_of(alloc, epoch, batch)?;
@@ -121,6 +124,7 @@ impl<K: Keeper> Rows<K> {
         ensures err { OnErr result (self.new ≡ record self.old { faults = self.new.faults }) }
         ensures worn { IsWorn result ↔ (self.old.epoch ≡ 2 ^ 62) }
         ensures cause { HasCause RowsError.Keeper self.old.faults self.new.faults result }
+        ensures sound { IfSome self.new.told (AreVersions self.new.epoch) }
     {
         let epoch = raised(self.epoch)?;
         let writes = kills_of(alloc, epoch, floor, ids)?;
@@ -205,6 +209,7 @@ impl<K: Keeper> Rows<K> {
         ensures err { OnErr result (self.new ≡ record self.old { faults = self.new.faults }) }
         ensures unworn { IsUnworn result }
         ensures cause { HasCause RowsError.Keeper self.old.faults self.new.faults result }
+        ensures sound { IfSome self.new.told (AreVersions self.new.epoch) }
     {
         let ids = dead_ids(&mut self.keeper, alloc, oldest)?;
         let count = ids.len() as u64;

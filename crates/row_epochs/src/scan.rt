@@ -11,27 +11,13 @@ ghost use Rattle.row_epochs.specs.Versions.{AreVersions};
 ghost use Rattle.row_epochs.specs.Places.{behind, place_at, first_place, next_piece, ids_of};
 
 use crate::error::RowsError;
-use agg_model::{Act, Change, Entity};
-use agg_outside::{Bytes, Keeper, Memory, Row, RowId, Rowlist};
+use crate::places::{behind, change_of, first_place, is_before, is_seen, next_piece, place_at};
+use agg_model::{Change, Entity};
+use agg_outside::{Keeper, Memory, Row, RowId, Rowlist};
 use std::alloc::Global;
 
 /// The most rows of one piece.
 const PIECE: usize = 256;
-
-/// Whether the id comes before the other.
-pub fn is_before(id: &RowId, other: &RowId) -> bool
-    ensures { result ≡ is_before id.now other.now }
-{
-    id.cmp(other).is_lt()
-}
-
-/// Whether an epoch sees the row.
-#[tactic(auto, unfolding(crate::specs::Seen::is_seen))]
-pub fn is_seen(epoch: u64, row: &Row) -> bool
-    ensures { result ≡ is_seen epoch row.now }
-{
-    row.id.born <= epoch && (row.killed == 0 || epoch < row.killed)
-}
 
 // Whether the row was killed at the epoch or before.
 #[tactic(auto, unfolding(crate::specs::Seen::is_dead))]
@@ -39,51 +25,6 @@ fn is_dead(epoch: u64, row: &Row) -> bool
     ensures { result ≡ is_dead epoch row.now }
 {
     !(row.killed == 0) && row.killed <= epoch
-}
-
-// The first id behind this one. A row born at the last number comes only of a keeper that doesn't tell
-// its rows, and is answered as want of memory.
-fn behind(alloc: Global, id: &RowId) -> Result<RowId, Memory>
-    ensures { IfOk result (λ next. next ≡ behind id.now) }
-{
-    if id.born == u64::MAX {
-        return Err(Memory);
-    }
-    Ok(RowId {
-        entity: id.entity,
-        key: id.key.copy(alloc)?,
-        tx: id.tx,
-        born: id.born + 1,
-    })
-}
-
-fn place_at(alloc: Global, entity: Entity, key: &[u8], tx: u64) -> Result<RowId, Memory>
-    ensures { IfOk result (λ place. place ≡ place_at entity key.now tx) }
-{
-    Ok(RowId {
-        entity: entity.number(),
-        key: Bytes::of(alloc, key)?,
-        tx,
-        born: 0,
-    })
-}
-
-// The change of the row of this entity. An act that no change has comes only of a keeper that doesn't
-// tell its rows, and is answered as want of memory.
-#[tactic(auto, unfolding(crate::specs::Changes::act_of))]
-fn change_of(entity: Entity, row: Row) -> Result<Change, Memory>
-    ensures { IfOk result (λ change. change ≡ record { tx = row.id.tx; entity = entity; key = row.id.key; act = act_of row.act row.value }) }
-{
-    let Row { id, act, value, .. } = row;
-    let Some(act) = Act::of_number(act, value) else {
-        return Err(Memory);
-    };
-    Ok(Change {
-        tx: id.tx,
-        entity,
-        key: id.key,
-        act,
-    })
 }
 
 /// The change of the key that the epoch sees with the greatest number from `from` on and below
@@ -115,7 +56,7 @@ pub fn last_seen<K: Keeper>(
             return Ok(None);
         }
         if is_seen(epoch, &row) {
-            return Ok(Some(change_of(entity, row)?));
+            return Ok(Some(change_of(row)?));
         }
         place = row.id;
     }
@@ -152,20 +93,6 @@ fn keep_piece(
         keep_seen(epoch, limit, row, found)?;
     }
     Ok(())
-}
-
-// Where to go on after the piece: behind its last row, or nowhere where it has fewer than `size` rows.
-fn next_piece(alloc: Global, piece: &Rowlist, size: usize) -> Result<Option<RowId>, Memory>
-    ensures { IfOk result (λ next. next ≡ next_piece size piece.now) }
-{
-    let rows = piece.as_slice();
-    if rows.len() < size {
-        return Ok(None);
-    }
-    match rows.last() {
-        None => Ok(None),
-        Some(last) => Ok(Some(behind(alloc, &last.id)?)),
-    }
 }
 
 /// The first `limit` rows not before `from` that the epoch sees. They are read in pieces of as many as
@@ -213,17 +140,6 @@ fn note_dead(oldest: u64, piece: Rowlist, ids: &mut Vec<RowId>) -> Result<(), Me
         }
     }
     Ok(())
-}
-
-fn first_place(alloc: Global) -> Result<RowId, Memory>
-    ensures { IfOk result (λ place. place ≡ first_place) }
-{
-    Ok(RowId {
-        entity: 0,
-        key: Bytes::of(alloc, &[])?,
-        tx: 0,
-        born: 0,
-    })
 }
 
 /// The ids of the rows that were killed at `oldest` or before, in order. Over a keeper that tells its

@@ -47,8 +47,8 @@ returns-then-is_seen-clause-change g c =
     let form = found_form (c.requires h told).0 h.rows at.place c.in-Some.row are.versions is in
     let above = ap (λ (p : RowId). is_before c.in-Some.row.id p) (sym c.in_ok-low.ensures) ∙ sym c.is_before.ensures ∙ c.if-is_before.false in
     let here = still_seen c.args.epoch c.args.entity c.args.key.now c.args.from c.args.before h.rows at.place c.in-Some.row are.in_order form.entity (at.invariant.still h told) is above (sym c.is_seen.ensures ∙ c.if-is_seen.true) in
-    ap (λ (x : Change). Some x) (c.in_ok-change_of.ensures ∙ here.1)
-    ∙ sym here.0
+    ap (λ (x : Change). Some x) c.in_ok-change_of.ensures
+    ∙ sym here
     ∙ sym (hot_change-last c.args.epoch c.args.entity c.args.key.now c.args.from c.args.before h.rows))
 
 pub loop-look-preserved : goal.loop-look-preserved

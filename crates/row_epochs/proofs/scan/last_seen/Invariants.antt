@@ -8,5 +8,5 @@ abbrev pub invariant-loop-look : goal.invariant-loop-look
 invariant-loop-look g l = record {
   held : g.K.Keeper.held l.keeper ≡ g.K.Keeper.held l.initial.keeper;
   faults : g.K.Keeper.faults l.initial.keeper ≤ g.K.Keeper.faults l.keeper;
-  still : (h : Held) → g.K.Keeper.held l.initial.keeper ≡ Some h → StillLast l.epoch l.entity l.key l.from l.before h.rows l.place;
+  still : (h : Held) → g.K.Keeper.held l.initial.keeper ≡ Some h → StillLast l.epoch l.fn.entity l.key l.from l.before h.rows l.place;
 }

@@ -16,6 +16,11 @@ invariant_of-self-2 g c =
     (c.in_ok-epoch.ensures.within, made (g.K.Keeper.held c.self.inside.keeper) (g.K.Keeper.held c.apply.new.self) (applied c.as_slice.result.now) (AreVersions c.in_ok-epoch.epoch)
     (λ h told. (killed_by (g.K.Keeper.held c.self.inside.keeper) c.args.self.now.told c.self.inside.epoch c.args.self.now.epoch c.in_ok-epoch.epoch c.args.floor c.args.ids.now c.as_slice.result.now (ap (λ (v : Versions). v.told) c.self.view_is) (ap (λ (v : Versions). v.epoch) c.self.view_is) c.in_ok-epoch.ensures.next (c.as_slice.ensures.value ∙ c.in_ok-writes.ensures) c.self.invariant.1 c.requires.alive h told).are) c.in_ok-apply.ensures.ok c.in_ok-apply.ensures.silent)
 
+pub returns-clause-sound : goal.returns-clause-sound
+returns-clause-sound g c =
+    made (g.K.Keeper.held c.self.inside.keeper) (g.K.Keeper.held c.apply.new.self) (applied c.as_slice.result.now) (AreVersions c.in_ok-epoch.epoch)
+    (λ h told. (killed_by (g.K.Keeper.held c.self.inside.keeper) c.args.self.now.told c.self.inside.epoch c.args.self.now.epoch c.in_ok-epoch.epoch c.args.floor c.args.ids.now c.as_slice.result.now (ap (λ (v : Versions). v.told) c.self.view_is) (ap (λ (v : Versions). v.epoch) c.self.view_is) c.in_ok-epoch.ensures.next (c.as_slice.ensures.value ∙ c.in_ok-writes.ensures) c.self.invariant.1 c.requires.alive h told).are) c.in_ok-apply.ensures.ok c.in_ok-apply.ensures.silent
+
 pub returns-clause-earlier : goal.returns-clause-earlier
 returns-clause-earlier g c =
     kept (g.K.Keeper.held c.self.inside.keeper) c.args.self.now.told (g.K.Keeper.held c.apply.new.self) (applied c.as_slice.result.now) (λ (h k : Held). SameUpTo c.args.self.now.epoch h.rows k.rows) (ap (λ (v : Versions). v.told) c.self.view_is)

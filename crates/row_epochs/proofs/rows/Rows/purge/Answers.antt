@@ -16,6 +16,11 @@ invariant_of-self-2 g c =
     (c.self.invariant.0, made (g.K.Keeper.held c.dead_ids.new.keeper) (g.K.Keeper.held c.apply.new.self) (applied c.as_slice.result.now) (AreVersions c.self.inside.epoch)
     (λ h told. (purged_by (g.K.Keeper.held c.dead_ids.new.keeper) (g.K.Keeper.held c.self.inside.keeper) c.self.inside.epoch c.args.oldest c.in_ok-ids.ids.items c.as_slice.result.now c.in_ok-ids.ensures.held c.self.invariant.1 c.in_ok-ids.ensures.ids (c.as_slice.ensures.value ∙ c.in_ok-writes.ensures) h told).are) c.in_ok-apply.ensures.ok c.in_ok-apply.ensures.silent)
 
+pub returns-clause-sound : goal.returns-clause-sound
+returns-clause-sound g c =
+    made (g.K.Keeper.held c.dead_ids.new.keeper) (g.K.Keeper.held c.apply.new.self) (applied c.as_slice.result.now) (AreVersions c.self.inside.epoch)
+    (λ h told. (purged_by (g.K.Keeper.held c.dead_ids.new.keeper) (g.K.Keeper.held c.self.inside.keeper) c.self.inside.epoch c.args.oldest c.in_ok-ids.ids.items c.as_slice.result.now c.in_ok-ids.ensures.held c.self.invariant.1 c.in_ok-ids.ensures.ids (c.as_slice.ensures.value ∙ c.in_ok-writes.ensures) h told).are) c.in_ok-apply.ensures.ok c.in_ok-apply.ensures.silent
+
 pub returns-clause-ok : goal.returns-clause-ok
 returns-clause-ok g c =
     becomes (g.K.Keeper.held c.dead_ids.new.keeper) c.args.self.now.told (g.K.Keeper.held c.apply.new.self) (applied c.as_slice.result.now) (λ (h : Held). record h { rows = without_dead c.args.oldest h.rows }) (c.in_ok-ids.ensures.held ∙ (ap (λ (v : Versions). v.told) c.self.view_is))
