@@ -53,12 +53,7 @@ fn row_at(alloc: Global, rows: &[Row], place: usize) -> Result<Option<Row>, Memo
     }
 }
 
-fn some_from(
-    alloc: Global,
-    rows: &[Row],
-    place: usize,
-    limit: usize,
-) -> Result<Rowlist, Memory> {
+fn some_from(alloc: Global, rows: &[Row], place: usize, limit: usize) -> Result<Rowlist, Memory> {
     let mut found = Rowlist::new(alloc);
     for row in rows.iter().skip(place).take(limit) {
         found.push(row.copy(alloc)?)?;

@@ -48,12 +48,7 @@ fn put(
 }
 
 // The value that the key has at an epoch; 0 where it has none.
-fn value_at(
-    hot: &mut Hot<PlainKeeper>,
-    alloc: Global,
-    epoch: u64,
-    key: u8,
-) -> Result<u8, RowsError>
+fn value_at(hot: &mut Hot<PlainKeeper>, alloc: Global, epoch: u64, key: u8) -> Result<u8, RowsError>
     requires { hot.old.told ≡ None }
     ensures { hot.new.told ≡ None }
 {
@@ -116,7 +111,10 @@ fn an_epoch_at_its_limit_does_not_rise(rt: HostRuntime) -> Result<(), Fail> {
     assert_eq!(rt; rows.floor(), Ok(0));
     let mut hot = Hot::of(rows);
     assert_eq!(rt; put(&mut hot, rt.alloc(), 1, 1, 1), Err(worn));
-    assert_eq!(rt; hot.kill_below(rt.alloc(), 9, 0, 4)?, Pruned { killed: 0, left: 0 });
+    assert_eq!(rt;
+        hot.kill_below(rt.alloc(), 9, 0, 4)?,
+        Pruned { killed: 0, left: 0 }
+    );
     assert_eq!(rt; hot.kill_below(rt.alloc(), 9, 1, 4), Err(worn));
     Ok(())
 }
