@@ -1,0 +1,50 @@
+use Rattle.std.proofs.Common.{◌≡◌, ℕ, List, length, take, reverse, Option, Some, None, refl, sym, ap, subst, ◌∙◌, arith}
+use Rattle.agg_outside.specs.declared.rows.RowId.{RowId}
+use Rattle.agg_outside.specs.declared.rows.Row.{Row}
+use Rattle.agg_outside.specs.Rows.{Held, is_before, first_from, last_before}
+use Rattle.agg_model.specs.Contents.{times}
+use Rattle.row_epochs.specs.Changes.{changes_seen}
+use Rattle.row_epochs.specs.Versions.{Versions, AreVersions}
+use Rattle.row_epochs.proofs.Answering.{tell, fall}
+use Rattle.hot_keeper.specs.Windows.{window_keys}
+use Rattle.row_epochs.specs.Places.{place_at}
+use Rattle.hot_keeper.proofs.TimesLaws.{Rising, rising_first, rising_full, rising_none, rising_all, rising_over, rising_look, still_short}
+use Rattle.hot_keeper.proofs.times.times_up.Goals as goal
+
+pub loop-look-init : goal.loop-look-init
+loop-look-init g c = record {
+  told = refl;
+  epoch = refl;
+  faults = omega arith;
+  short = omega (arith, ap length c.new-found.ensures);
+  still = λ h told. let F : RowId → Type 0 = λ p. Rising c.args.epoch c.args.entity c.args.key.now c.args.numbers.from c.args.numbers.to c.args.limit h.rows p c.new-found.result in let G : List ℕ → Type 0 = λ l. Rising c.args.epoch c.args.entity c.args.key.now c.args.numbers.from c.args.numbers.to c.args.limit h.rows (place_at c.args.entity c.args.key.now c.args.numbers.from) l in subst F (sym c.in_ok-place.ensures) (subst G (sym c.new-found.ensures) (rising_first c.args.epoch c.args.entity c.args.key.now c.args.numbers.from c.args.numbers.to c.args.limit c.args.rows.now.epoch h (fall c.args.rows.now.told (AreVersions c.args.rows.now.epoch) c.requires h told)));
+}
+
+pub returns-then-len-limit-clause-numbers : goal.returns-then-len-limit-clause-numbers
+returns-then-len-limit-clause-numbers g c =
+    let at = c.loop-look in
+    tell c.args.rows.now.told (λ (h : Held). at.found ≡ take c.args.limit (times (changes_seen c.args.epoch h.rows) c.args.entity c.args.key.now c.args.numbers.from c.args.numbers.to)) (λ h told.
+    rising_full c.args.epoch c.args.entity c.args.key.now c.args.numbers.from c.args.numbers.to c.args.limit h.rows at.place at.found at.invariant.short (omega (arith, c.if-len-limit.true, c.len.ensures)) (at.invariant.still h told))
+
+pub returns-in_default-clause-numbers : goal.returns-in_default-clause-numbers
+returns-in_default-clause-numbers g c =
+    let at = c.loop-look in
+    tell c.args.rows.now.told (λ (h : Held). at.found ≡ take c.args.limit (times (changes_seen c.args.epoch h.rows) c.args.entity c.args.key.now c.args.numbers.from c.args.numbers.to)) (λ h told.
+    rising_all c.args.epoch c.args.entity c.args.key.now c.args.numbers.from c.args.numbers.to c.args.limit h.rows at.found at.invariant.short (rising_none c.args.epoch c.args.entity c.args.key.now c.args.numbers.from c.args.numbers.to c.args.limit h at.place at.found (sym (fall at.rows.told (λ (x : Held). c.in_ok-next.next ≡ first_from at.place x.rows) c.in_ok-next.ensures.row h (at.invariant.told ∙ told)) ∙ c.in_default.is) (at.invariant.still h told)))
+
+pub returns-then-not-is_before-clause-numbers : goal.returns-then-not-is_before-clause-numbers
+returns-then-not-is_before-clause-numbers g c =
+    let at = c.loop-look in
+    tell c.args.rows.now.told (λ (h : Held). at.found ≡ take c.args.limit (times (changes_seen c.args.epoch h.rows) c.args.entity c.args.key.now c.args.numbers.from c.args.numbers.to)) (λ h told.
+    rising_all c.args.epoch c.args.entity c.args.key.now c.args.numbers.from c.args.numbers.to c.args.limit h.rows at.found at.invariant.short (rising_over c.args.epoch c.args.entity c.args.key.now c.args.numbers.from c.args.numbers.to c.args.limit c.args.rows.now.epoch h at.place c.in-Some.row at.found (fall c.args.rows.now.told (AreVersions c.args.rows.now.epoch) c.requires h told) (sym (fall at.rows.told (λ (x : Held). c.in_ok-next.next ≡ first_from at.place x.rows) c.in_ok-next.ensures.row h (at.invariant.told ∙ told)) ∙ c.in-Some.is) (ap (λ (p : RowId). is_before c.in-Some.row.id p) (sym c.in_ok-high.ensures) ∙ sym c.is_before.ensures ∙ c.if-not-is_before.true) (at.invariant.still h told)))
+
+pub loop-look-preserved : goal.loop-look-preserved
+loop-look-preserved g c =
+    let at = c.loop-look in
+    record {
+      told = ap (λ (v : Versions). v.told) c.in_ok-next.ensures.same ∙ at.invariant.told;
+      epoch = ap (λ (v : Versions). v.epoch) c.in_ok-next.ensures.same ∙ at.invariant.epoch;
+      faults = omega (arith, at.invariant.faults, c.in_ok-next.ensures.cause.no_fall);
+      short = still_short c.args.limit c.args.epoch c.in-Some.row at.found c.take_number.new.found (omega (arith, c.if-len-limit.false, c.len.ensures)) c.in_ok-take_number.ensures;
+      still = λ h told. rising_look c.args.epoch c.args.entity c.args.key.now c.args.numbers.from c.args.numbers.to c.args.limit c.args.rows.now.epoch h at.place c.in_ok-place-2.place c.in-Some.row at.found c.take_number.new.found (fall c.args.rows.now.told (AreVersions c.args.rows.now.epoch) c.requires h told) (sym (fall at.rows.told (λ (x : Held). c.in_ok-next.next ≡ first_from at.place x.rows) c.in_ok-next.ensures.row h (at.invariant.told ∙ told)) ∙ c.in-Some.is) (ap (λ (p : RowId). is_before c.in-Some.row.id p) (sym c.in_ok-high.ensures) ∙ sym c.is_before.ensures ∙ c.if-not-is_before.false) c.in_ok-place-2.ensures c.in_ok-take_number.ensures (at.invariant.still h told);
+    }

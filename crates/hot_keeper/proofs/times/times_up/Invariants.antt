@@ -1,0 +1,13 @@
+use Rattle.std.proofs.Common.{◌≡◌, ◌≤◌, length, Some}
+use Rattle.agg_outside.specs.Rows.{Held}
+use Rattle.hot_keeper.proofs.TimesLaws.{Rising}
+use Rattle.hot_keeper.proofs.times.times_up.Given as goal
+
+abbrev pub invariant-loop-look : goal.invariant-loop-look
+invariant-loop-look g l = record {
+  told : l.rows.told ≡ l.initial.rows.told;
+  epoch : l.rows.epoch ≡ l.initial.rows.epoch;
+  faults : l.initial.rows.faults ≤ l.rows.faults;
+  short : length l.found ≤ l.limit;
+  still : (h : Held) → l.initial.rows.told ≡ Some h → Rising l.epoch l.fn.entity l.fn.key l.fn.numbers.from l.fn.numbers.to l.limit h.rows l.place l.found;
+}

@@ -1,0 +1,5 @@
+pub mod Answering
+pub mod LastWalks
+pub mod PieceWalks
+pub mod RowWalks
+pub mod WriteLaws

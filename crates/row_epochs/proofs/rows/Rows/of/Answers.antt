@@ -1,0 +1,18 @@
+use Rattle.std.proofs.Common.{IsTrue}
+use Rattle.agg_outside.specs.Rows.{Held, ascends}
+use Rattle.row_epochs.specs.Versions.{AreVersions}
+use Rattle.row_epochs.proofs.Answering.{tell, fall}
+use Rattle.row_epochs.proofs.rows.Rows.of.Goals as goal
+
+pub invariant_of-result : goal.invariant_of-result
+invariant_of-result g c =
+    let laws = g.met.K.Keeper g.world.𝓛 g.world.𝓜 g.world.𝓡 ((λ s x. x), (λ x. x), (λ x. x), λ x. x) in (
+      c.requires.epoch,
+      tell (g.K.Keeper.held c.args.keeper) (AreVersions c.args.epoch) (λ h told.
+          let rows = c.requires.rows h told in
+          record {
+            in_order = fall (g.K.Keeper.held c.args.keeper) (λ (x : Held). IsTrue (ascends x.rows)) (laws.in_order c.args.keeper) h told;
+            versions = rows.versions;
+            apart = rows.apart;
+          }),
+    )

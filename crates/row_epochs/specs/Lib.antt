@@ -1,0 +1,6 @@
+pub mod Changes
+pub mod Errors
+pub mod Places
+pub mod Seen
+pub mod Starts
+pub mod Versions
