@@ -1,21 +1,19 @@
 //! The calls: a pass takes its turn and gives it back, and passes are split and joined.
-ghost use Rattle.std.specs.Prelude.{◌≡◌, ◌<◌, ◌%◌, ◌^◌, ◌++◌, [], ◌∷◌, Some, IfOk, IfErr, OnErr, true};
+ghost use Rattle.std.specs.Prelude.{◌≡◌, ◌<◌, ◌^◌, ◌++◌, [], ◌∷◌, Some, IfOk, IfErr, OnErr};
 ghost use mathlib.Core.List.{IsPrefix};
-ghost use Rattle.turn_cell.specs.declared.view.Stage.TheVariants.{Waits};
 ghost use Rattle.turn_cell.specs.Rule.{fresh, after_join};
-ghost use Rattle.turn_cell.specs.Steps.{Finds, Took, after_turn, KnowsAll};
+ghost use Rattle.turn_cell.specs.Steps.{Finds, after_turn, KnowsAll};
 ghost use Rattle.turn_cell.specs.Passes.{knowledge_of, IsAtRest, IsTurnOf, found_of, knowledge_in, after_split, IsRefusedSplit};
 
 use crate::cell::TurnCell;
-use crate::kept::{Kept, Naming, Recorded};
+use crate::kept::{Kept, Naming};
 use crate::pass::{Pass, PassOf};
 use crate::plays::{
     CountSplit, DrawTicket, JoinPasses, LearnJoin, LookAtServing, ServeNext, SplitPass,
 };
 use crate::turn::Turn;
-use crate::view::View;
 use agg_outside::Memory;
-use atomic_table::{Refused, Seat, Table};
+use atomic_table::{Refused, Table};
 use std::alloc::{AllocFailed, Global};
 use std::hint;
 use std::snapshot::Snapshot;
@@ -57,35 +55,15 @@ impl<S: Kept> TurnCell<S> {
         }
     }
 
-    // Waits until the word is the seat's ticket: looks a while, then sleeps until the word changes.
-    fn wait<R: Wait>(
-        &self,
-        rt: &R,
-        seat: &mut Seat<Option<S>, View<S::Record, <S::Record as Recorded>::Start>>,
-        ticket: u64,
-    )
-        requires own { seat.old.table_id ≡ self.now.table.shared.table_id }
-        requires waits { (seat.old.me.0.place.stage ≡ Waits) × (seat.old.me.0.knowledge.live ≡ true) }
-        requires ticket { ticket ≡ seat.old.me.0.place.ticket % 2 ^ 64 }
-        ensures own { (seat.new.table_id ≡ seat.old.table_id) × (seat.new.id ≡ seat.old.id) }
-        ensures took { Took S.Record.caller S.stands S.start seat.old.me seat.new.me }
-    {
-        let mut looks = 0u32;
-        for _ in rt.forever() {
-            let now = self.table.shared.load::<LookAtServing<S>>(seat, SERVING);
-            if now == ticket {
-                return;
-            }
-            if looks < LOOKS {
-                looks += 1;
-                hint::spin_loop();
-            } else {
-                self.table
-                    .shared
-                    .park(rt, SERVING, (now % (1 << 32)) as u32);
-            }
+    // Between two looks at the ticket served, of which `now` was the last. After some looks it sleeps until the
+    // word is another.
+    fn pause<R: Wait>(&self, rt: &R, now: u64, looks: u32) {
+        if looks < LOOKS {
+            hint::spin_loop();
+        } else {
+            let expected = (now % (1 << 32)) as u32;
+            self.table.shared.park(rt, SERVING, expected);
         }
-        unreachable!()
     }
 
     /// Waits for the turn of the pass, and takes the state. Turns come in the order in which their
@@ -104,11 +82,22 @@ impl<S: Kept> TurnCell<S> {
             .table
             .shared
             .fetch_add::<DrawTicket>(&mut seat, TICKETS, 1);
-        self.wait(rt, &mut seat, ticket);
-        match self.table.shared.exchange(&mut seat, 0, None) {
-            Some(state) => Turn { state, seat },
-            None => unreachable!(),
+        let mut looks = 0u32;
+        for _ in rt.forever() {
+            let now = self
+                .table
+                .shared
+                .load::<LookAtServing<S>>(&mut seat, SERVING);
+            if now == ticket {
+                return match self.table.shared.exchange(&mut seat, 0, None) {
+                    Some(state) => Turn { state, seat },
+                    None => unreachable!(),
+                };
+            }
+            self.pause(rt, now, looks);
+            looks = looks.saturating_add(1);
         }
+        unreachable!()
     }
 
     /// Ends the turn. The history has one record more, which `J` names. The next pass is served, and
@@ -158,7 +147,7 @@ impl<S: Kept> TurnCell<S> {
             .shared
             .fetch_add::<CountSplit>(&mut seat, MADE, 1);
         let other = self.table.shared.split_seat::<SplitPass>(&mut seat);
-        pass.badge = seat.into_badge();
+        pass.put_seat(seat);
         Ok(PassOf::of(number, other))
     }
 
@@ -175,7 +164,7 @@ impl<S: Kept> TurnCell<S> {
         let other = other.take_seat::<Option<S>>();
         self.table.shared.join_seat::<JoinPasses>(&mut seat, other);
         self.table.shared.load::<LearnJoin>(&mut seat, TICKETS);
-        pass.badge = seat.into_badge();
+        pass.put_seat(seat);
     }
 
     /// The state at the end, with the whole history behind it.

@@ -8,6 +8,8 @@ mod pass;
 mod plays;
 mod rule;
 mod state;
+#[cfg(test)]
+mod tests;
 mod turn;
 mod view;
 

@@ -45,4 +45,13 @@ impl<R, T> PassOf<R, T> {
     {
         mem::replace(&mut self.badge, Badge::blank()).into_seat::<S>()
     }
+
+    // Puts the seat back as the badge.
+    pub(crate) fn put_seat<S>(&mut self, seat: Seat<S, View<R, T>>)
+        requires { seat.me.1 ≡ [] }
+        ensures number { self.new.number ≡ self.old.number }
+        ensures badge { (self.new.badge.table_id ≡ seat.table_id) × (self.new.badge.id ≡ seat.id) × (self.new.badge.views ≡ seat.me.0 ∷ []) }
+    {
+        self.badge = seat.into_badge();
+    }
 }
