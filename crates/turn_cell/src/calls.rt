@@ -30,6 +30,25 @@ const MADE: usize = 2;
 // How often a pass looks before it sleeps.
 const LOOKS: u32 = 100;
 
+// What a thread did while it waited: how often it looked and didn't sleep, whether it slept, and the ticket that
+// was served when it last passed a wake on.
+#[derive(Drop)]
+struct Waiting {
+    looks: u32,
+    has_slept: bool,
+    passed_on: Option<u64>,
+}
+
+impl Waiting {
+    fn new() -> Waiting {
+        Waiting {
+            looks: 0,
+            has_slept: false,
+            passed_on: None,
+        }
+    }
+}
+
 impl<S: Kept> TurnCell<S> {
     /// A cell with this state, and its pass 0. Where memory ran out the state comes back.
     pub fn new(alloc: Global, state: S) -> Result<(TurnCell<S>, Pass<S::Record>), (Memory, S)>
@@ -55,15 +74,26 @@ impl<S: Kept> TurnCell<S> {
         }
     }
 
-    // Between two looks at the ticket served, of which `now` was the last. After some looks it sleeps until the
-    // word is another.
-    fn pause<R: Wait>(&self, rt: &R, now: u64, looks: u32) {
-        if looks < LOOKS {
+    // Between two looks at the ticket served, of which `now` was the last: looks again at once for a while, and
+    // then sleeps until the word is another. Who is woken out of its turn passes the wake on before it sleeps
+    // again; who comes to that a second time while the same ticket is served wakes all.
+    fn pause<R: Wait>(&self, rt: &R, now: u64, waiting: &mut Waiting) {
+        if waiting.looks < LOOKS {
+            waiting.looks += 1;
             hint::spin_loop();
-        } else {
-            let expected = (now % (1 << 32)) as u32;
-            self.table.shared.park(rt, SERVING, expected);
+            return;
         }
+        if waiting.has_slept {
+            if waiting.passed_on == Some(now) {
+                self.table.shared.wake_all(SERVING);
+            } else {
+                self.table.shared.wake_one(SERVING);
+                waiting.passed_on = Some(now);
+            }
+        }
+        waiting.has_slept = true;
+        let expected = (now % (1 << 32)) as u32;
+        self.table.shared.park(rt, SERVING, expected);
     }
 
     /// Waits for the turn of the pass, and takes the state. Turns come in the order in which their
@@ -82,7 +112,7 @@ impl<S: Kept> TurnCell<S> {
             .table
             .shared
             .fetch_add::<DrawTicket>(&mut seat, TICKETS, 1);
-        let mut looks = 0u32;
+        let mut waiting = Waiting::new();
         for _ in rt.forever() {
             let now = self
                 .table
@@ -94,14 +124,13 @@ impl<S: Kept> TurnCell<S> {
                     None => unreachable!(),
                 };
             }
-            self.pause(rt, now, looks);
-            looks = looks.saturating_add(1);
+            self.pause(rt, now, &mut waiting);
         }
         unreachable!()
     }
 
-    /// Ends the turn. The history has one record more, which `J` names. The next pass is served, and
-    /// whoever sleeps is woken where somebody stands behind.
+    /// Ends the turn. The history has one record more, which `J` names. The next pass is served; where
+    /// somebody stands behind, one who sleeps is woken, and passes that on where it isn't the next.
     pub fn give_back<J: Naming<S::Record>>(&self, pass: &mut Pass<S::Record>, turn: Turn<S>)
         requires own { IsTurnOf self.now pass.old turn }
         requires record { S.Record.caller J.added ≡ (knowledge_in turn).number }
@@ -121,7 +150,7 @@ impl<S: Kept> TurnCell<S> {
             .fetch_add::<ServeNext<J>>(&mut seat, SERVING, 1);
         // Who drew a ticket before this look may be asleep. Who draws one after it sees the new word.
         if self.table.shared.peek(TICKETS) != served.wrapping_add(1) {
-            self.table.shared.wake_all(SERVING);
+            self.table.shared.wake_one(SERVING);
         }
         pass.badge = seat.into_badge();
     }
