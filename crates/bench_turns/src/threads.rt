@@ -1,7 +1,9 @@
 //! So many threads, with so many turns each.
-ghost use Rattle.std.specs.Prelude.{◌≡◌, ◌+◌, ◌≤◌, ◌%◌, ◌^◌, ℕ, length, vec_len, All, IfOk, OnOk, Some};
+ghost use Rattle.std.specs.Prelude.{◌≡◌, ◌+◌, ◌*◌, ◌≤◌, ◌%◌, ◌^◌, [], length, vec_len, All, IfOk, OnOk, Some};
+ghost use Rattle.turn_cell.specs.Rule.{fresh};
 ghost use Rattle.turn_cell.specs.Steps.{after_turn};
 ghost use Rattle.turn_cell.specs.Passes.{knowledge_of, knowledge_in, found_of, IsAtRest, IsTurnOf};
+ghost use Rattle.bench_turns.specs.First.{IsFirst};
 
 use crate::counter::{Counter, Entry};
 use agg_outside::Memory;
@@ -27,7 +29,8 @@ fn finish<J: Naming<Entry>>(cell: &TurnCell<Counter>, pass: &mut Pass<Entry>, tu
 
 fn turn<R: Wait>(rt: &R, cell: &TurnCell<Counter>, pass: &mut Pass<Entry>, rounds: u64)
     requires { IsAtRest cell.now pass.old }
-    ensures { IsAtRest cell.now pass.new }
+    ensures rest { IsAtRest cell.now pass.new }
+    ensures one_more { length (knowledge_of pass.new).mine ≡ length (knowledge_of pass.old).mine + 1 }
 {
     let mut turn = cell.take(rt, pass);
     turn.state().work(rounds);
@@ -42,7 +45,8 @@ fn turns<R: Wait>(
     rounds: u64,
 ) -> Pass<Entry>
     requires { IsAtRest cell.now pass }
-    ensures { IsAtRest cell.now result }
+    ensures rest { IsAtRest cell.now result }
+    ensures more { length (knowledge_of result).mine ≡ length (knowledge_of pass).mine + count }
 {
     for _turn in 0..count {
         turn(rt, cell, &mut pass, rounds);
@@ -58,11 +62,13 @@ fn split_all(
 ) -> Result<Vec<Pass<Entry>>, Memory>
     requires few { count ≤ MOST_THREADS }
     requires rest { IsAtRest cell.now zero.old }
-    requires first { ((knowledge_of zero.old).number ≡ 0) × ((knowledge_of zero.old).made ≡ 1) × ((knowledge_of zero.old).out ≡ 0) }
+    requires first { knowledge_of zero.old ≡ fresh 0 (Some tt) [] }
     ensures rest { IsAtRest cell.now zero.new }
-    ensures zero { OnOk result ((knowledge_of zero.new).number ≡ 0) }
+    ensures zero { OnOk result (IsFirst (knowledge_of zero.new)) }
     ensures out { IfOk result (λ v. (knowledge_of zero.new).out ≡ vec_len v) }
-    ensures all { IfOk result (λ v. All (λ p. IsAtRest cell.now p) v.items) }
+    ensures none { OnOk result ((knowledge_of zero.new).ended ≡ []) }
+    ensures len { IfOk result (λ v. vec_len v ≡ count) }
+    ensures all { IfOk result (λ v. All (λ p. IsAtRest cell.now p × ((knowledge_of p).mine ≡ [])) v.items) }
 {
     let mut passes = Vec::new(alloc);
     for _passed in 0..count {
@@ -72,13 +78,21 @@ fn split_all(
     Ok(passes)
 }
 
-fn join_all(cell: &TurnCell<Counter>, zero: &mut Pass<Entry>, mut passes: Vec<Pass<Entry>>)
+fn join_all(
+    cell: &TurnCell<Counter>,
+    zero: &mut Pass<Entry>,
+    mut passes: Vec<Pass<Entry>>,
+    count: u64,
+)
     requires rest { IsAtRest cell.now zero.old }
-    requires zero { (knowledge_of zero.old).number ≡ 0 }
+    requires zero { IsFirst (knowledge_of zero.old) }
     requires out { (knowledge_of zero.old).out ≡ vec_len passes }
-    requires all { All (λ p. IsAtRest cell.now p) passes.items }
+    requires none { (knowledge_of zero.old).ended ≡ [] }
+    requires all { All (λ p. IsAtRest cell.now p × (length (knowledge_of p).mine ≡ count)) passes.items }
     ensures rest { IsAtRest cell.now zero.new }
-    ensures zero { ((knowledge_of zero.new).number ≡ 0) × ((knowledge_of zero.new).out ≡ 0) }
+    ensures zero { IsFirst (knowledge_of zero.new) × ((knowledge_of zero.new).out ≡ 0) }
+    ensures len { length (knowledge_of zero.new).ended ≡ vec_len passes }
+    ensures each { All (λ e. length e.records ≡ count) (knowledge_of zero.new).ended }
 {
     while let Some(pass) = passes.pop() {
         cell.join(zero, pass);
@@ -94,6 +108,7 @@ pub fn counted<R: Threads + Wait + Sync>(
     rounds: u64,
 ) -> Result<Counter, Memory>
     requires { threads ≤ MOST_THREADS }
+    ensures { IfOk result (λ c. c.turns ≡ threads * count % 2 ^ 64) }
 {
     let Ok((cell, mut zero)) = TurnCell::new(alloc, Counter { turns: 0, value: 1 }) else {
         return Err(Memory);
@@ -104,10 +119,10 @@ pub fn counted<R: Threads + Wait + Sync>(
         rt,
         passes,
         &|pass: Pass<Entry>| -> Pass<Entry>
-            requires { IsAtRest shared.now pass }
-            ensures { IsAtRest shared.entry.now result }
+            requires { IsAtRest shared.now pass × ((knowledge_of pass).mine ≡ []) }
+            ensures { IsAtRest shared.entry.now result × (length (knowledge_of result).mine ≡ count) }
         { turns(rt, shared, pass, count, rounds) },
     )?;
-    join_all(&cell, &mut zero, passes);
+    join_all(&cell, &mut zero, passes, count);
     Ok(cell.close(zero))
 }
