@@ -1,7 +1,5 @@
 -- A history whose records are all of known callers has as many records as these callers have together.
 use Rattle.std.proofs.Common.{◌≡◌, ◌≢◌, ◌⊎◌, ℕ, zero, suc, ◌+◌, ◌*◌, ◌<◌, Bool, true, false, cond, eqb, List, [], ◌∷◌, ◌++◌, length, refl, sym, ap, ◌∙◌, subst, ⊎_elim, arith, eq-eqb, ne_eqb, length-append}
-use mathlib.Core.Logic.{dite}
-use native.Mathlib.Decide.{ℕ_discrete}
 use mathlib.Core.Option.{some, some-injective, some-ne-none}
 use lib.ListN.{get_elem?}
 use Rattle.std.specs.Prelude.{All}
@@ -63,8 +61,11 @@ module _ {R : Type 0} (caller : R → ℕ) where
     hits : (c : ℕ) → (c ≡ 0) ⊎ HasEnded ended c → hit c 0 + total (λ e. hit c e.number) ended ≡ 1
     hits c known = ⊎_elim
         (λ (zero_is : c ≡ 0). omega (arith, hit_same c 0 zero_is, total_none (λ e. hit c e.number) ended (λ k e at. hit_other c e.number (λ u. let a = above k e at in absurd (omega arith)))))
-        (λ (h : HasEnded ended c). (let a = above h.0 h.1 h.2 in let is = h.3 in omega (arith, hit_other c 0 (λ u. absurd (omega arith)),
-            total_one (λ e. hit c e.number) ended h.0 h.1 h.2 (hit_same c h.1.number (sym h.3)) (λ j d at n. hit_other c d.number (λ u. n (distinct j h.0 d h.1 at h.2 (sym u ∙ sym h.3)))))))
+        (λ (h : HasEnded ended c). (let a = above h.0 h.1 h.2 in let is = h.3 in omega (
+          arith,
+          hit_other c 0 (λ u. absurd (omega arith)),
+          total_one (λ e. hit c e.number) ended h.0 h.1 h.2 (hit_same c h.1.number (sym h.3)) (λ j d at n. hit_other c d.number (λ u. n (distinct j h.0 d h.1 at h.2 (sym u ∙ sym h.3)))),
+        )))
         known
 
     counts : (log : List R) → ((k : ℕ) (r : R) → get_elem? log k ≡ some r → (caller r ≡ 0) ⊎ HasEnded ended (caller r))
