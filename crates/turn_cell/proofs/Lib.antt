@@ -1,0 +1,4 @@
+pub mod Basics
+pub mod Queues
+pub mod Histories
+pub mod Keeps
