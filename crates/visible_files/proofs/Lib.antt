@@ -1,0 +1,11 @@
+pub mod Equalities
+pub mod Orders
+pub mod Cuts
+pub mod Lookups
+pub mod Pins
+pub mod Puts
+pub mod Switches
+pub mod Keyed
+pub mod StrayNames
+pub mod Drops
+pub mod Seen

@@ -1,0 +1,4 @@
+pub mod Ids
+pub mod Held
+pub mod Strays
+pub mod Sets

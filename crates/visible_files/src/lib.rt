@@ -1,0 +1,19 @@
+//! Sets of visible groups of files, how often each file is pinned, and the names of those that are
+//! to be removed.
+#![tactic(auto)]
+
+mod held;
+mod ids;
+mod prepared;
+mod set;
+mod sets;
+mod strays;
+
+pub use held::HeldGroup;
+pub use ids::GroupId;
+pub use prepared::Prepared;
+pub use set::FileSet;
+pub use sets::FileSets;
+
+#[cfg(test)]
+mod tests;
