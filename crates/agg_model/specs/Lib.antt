@@ -6,6 +6,7 @@ pub mod ChangeList
 pub mod Contents
 pub mod Entity
 pub mod LastChanges
+pub mod Listed
 pub mod Merged
 pub mod Pairs
 pub mod Place

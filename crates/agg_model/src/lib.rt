@@ -9,6 +9,7 @@ mod entity;
 mod limits;
 mod look_up;
 mod merge;
+mod page;
 
 pub use change::{Act, Batch, Change, StepRows};
 pub use check::{BatchError, check_batch, content};
@@ -17,6 +18,7 @@ pub use entity::{Entity, FileKind, Range};
 pub use limits::{KEY_MOST, STEPS_MOST, VALUE_MOST};
 pub use look_up::{arranged_laws, look_up_law, plain_value_at};
 pub use merge::{grown_laws, merge_repeats, merged_laws};
+pub use page::{PageRow, PageRows};
 
 #[cfg(test)]
 mod tests;

@@ -1,5 +1,6 @@
-ghost use Rattle.std.specs.Prelude.{◌≡◌, [], ◌∷◌};
+ghost use Rattle.std.specs.Prelude.{◌≡◌, [], ◌∷◌, true, false, Some, None};
 ghost use Rattle.agg_model.specs.Contents.{kv_contents, v_contents, ef_contents};
+ghost use Rattle.agg_model.specs.Listed.{range, history, index, limited};
 ghost use Rattle.agg_model.specs.Worked.{worked};
 
 use super::*;
@@ -114,4 +115,18 @@ fn contents_of_two_steps()
     ensures v_second { v_contents 4 worked Entity.Accounts 1 2 ≡
         record { key = 170 ∷ []; tx = 5; value = 1 ∷ [] } ∷ record { key = 170 ∷ []; tx = 7; value = 2 ∷ [] } ∷ record { key = 187 ∷ []; tx = 6; value = [] } ∷ [] }
     ensures ef_second { ef_contents 4 worked Entity.Accounts 1 2 ≡ record { key = 170 ∷ []; items = 5 ∷ 7 ∷ [] } ∷ record { key = 187 ∷ []; items = 6 ∷ [] } ∷ [] }
+{}
+
+// What the listed reads answer over `worked`.
+fn rows_of_worked()
+    ensures before_the_deletion { range worked Entity.Accounts 7 None None ≡
+        record { key = 170 ∷ []; value = Some (2 ∷ []) } ∷ record { key = 187 ∷ []; value = Some (3 ∷ []) } ∷ [] }
+    ensures behind_the_deletion { range worked Entity.Accounts 8 None None ≡ record { key = 187 ∷ []; value = Some (3 ∷ []) } ∷ [] }
+    ensures below_a_key { range worked Entity.Accounts 7 (Some (170 ∷ [])) (Some (187 ∷ [])) ≡ record { key = 170 ∷ []; value = Some (2 ∷ []) } ∷ [] }
+    ensures changed_from_five { history worked Entity.Accounts 5 8 None ≡
+        record { key = 170 ∷ []; value = Some (1 ∷ []) } ∷ record { key = 187 ∷ []; value = None } ∷ [] }
+    ensures numbers { index worked Entity.Accounts (170 ∷ []) 1 8 false ≡ 5 ∷ 7 ∷ [] }
+    ensures backwards { index worked Entity.Accounts (170 ∷ []) 1 8 true ≡ 7 ∷ 5 ∷ [] }
+    ensures a_page { limited (λ n. n) 1 (index worked Entity.Accounts (170 ∷ []) 0 8 false) ≡ (0 ∷ [], Some 5) }
+    ensures the_last_page { limited (λ n. n) 2 (index worked Entity.Accounts (170 ∷ []) 1 8 false) ≡ (5 ∷ 7 ∷ [], None) }
 {}
