@@ -1,6 +1,6 @@
-//! Hash accessors: so many keys of 20 bytes in a word file, their accessor, and a look for each.
-ghost use Rattle.std.specs.Prelude.{◌≡◌, ◌<◌, ◌≤◌, ◌^◌};
-ghost use Rattle.recsplit_index.specs.Index.{index_of};
+//! Hash accessors: keys of 20 bytes in a word file, their accessor, and a look for each.
+ghost use Rattle.std.specs.Prelude.{◌≡◌, ◌<◌};
+ghost use Rattle.recsplit_index.specs.Index.{IsIndexOf};
 
 use crate::keys::TAG;
 use agg_outside::{Memory, Steps};
@@ -23,23 +23,9 @@ fn written(alloc: Global, count: u64) -> Result<WordFile, Memory> {
     Ok(writer.finish())
 }
 
-fn find<L: Ledger>(
-    index: &HashIndex,
-    words: &WordFile,
-    tries: u32,
-    key: &[u8],
-    steps: &mut Steps<L>,
-) -> Option<u64>
-    requires tries { tries ≤ 2 ^ 16 }
-    requires of_words { index.now ≡ index_of tries words.now.words }
-{
-    index.find(words, key, steps)
-}
-
 // The sum of the offsets of all keys, each looked for.
-fn found<L: Ledger>(words: &WordFile, index: &HashIndex, tries: u32, steps: &mut Steps<L>) -> u64
-    requires tries { tries ≤ 2 ^ 16 }
-    requires of_words { index.now ≡ index_of tries words.now.words }
+fn found<L: Ledger>(words: &WordFile, index: &HashIndex, steps: &mut Steps<L>) -> u64
+    requires { IsIndexOf words.now.words index.now }
 {
     let mut at = words.first();
     let mut sum = 0u64;
@@ -47,7 +33,7 @@ fn found<L: Ledger>(words: &WordFile, index: &HashIndex, tries: u32, steps: &mut
         if let Some(here) = at {
             if i % 2 == 0 {
                 let key = words.word_at(here, steps);
-                let offset = find(index, words, tries, key, steps);
+                let offset = index.find(words, key, steps);
                 sum = sum.wrapping_add(offset.unwrap_or(0));
             }
             at = words.next(here);
@@ -86,11 +72,11 @@ fn sum_of_keys<L: Ledger>(
     if let Stage::Accessor = stage {
         return Ok(index.bytes().len() as u64);
     }
-    Ok(found(&words, &index, TRIES, &mut steps))
+    Ok(found(&words, &index, &mut steps))
 }
 
-/// `hashed_pairs` gives the length of the word file, `hashed` that of its accessor, and every other part the
-/// sum of the offsets found; 0 where the keys don't differ.
+/// `hashed_pairs` gives the length of the word file, `hashed` that of its accessor, and every other
+/// part the sum of the offsets found; 0 where the keys don't differ.
 pub fn sum_of_hashed(alloc: Global, part: &str, count: u64) -> Result<u64, Memory> {
     let stage = match part {
         "hashed_pairs" => Stage::Pairs,

@@ -15,7 +15,7 @@ pub fn drawn(before: u64) -> u64 {
     second ^ (second << 17)
 }
 
-// So many numbers, each at most 1,023 above the one before; `draw` goes on.
+// `count` numbers, each at most 1,023 above the one before; `draw` goes on.
 pub fn rising_by(alloc: Global, count: u64, draw: &mut u64) -> Result<Vec<u64>, Memory> {
     let mut items = Vec::new(alloc);
     let mut item = 0u64;

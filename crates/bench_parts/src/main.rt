@@ -1,5 +1,5 @@
-//! The parts of the store that `bench/` measures from outside: `bench_parts PART COUNT` runs one over so
-//! many items, and prints a checksum.
+//! The parts of the store that `bench/` measures from outside: `bench_parts PART COUNT` runs one
+//! over COUNT items, and prints a checksum.
 #![tactic(auto)]
 
 mod hashed;

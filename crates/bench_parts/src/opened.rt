@@ -8,7 +8,7 @@ use elias_fano::EfList;
 use std::alloc::Global;
 use std::marker::Model;
 
-/// So many lists, each of so many numbers.
+/// `count` lists, each of `least` to `most` numbers.
 #[derive(Clone, Copy)]
 pub struct Lists {
     pub count: u64,
@@ -58,7 +58,8 @@ fn texts_of(alloc: Global, lists: Lists) -> Result<Vec<Text>, Memory> {
     Ok(texts)
 }
 
-/// The sum of what is found, where each list is opened so many times and one number sought in it.
+/// The sum of what is found, where each list is opened `rounds` times and one number sought in it
+/// each time.
 pub fn sum_of_opened(alloc: Global, lists: Lists, rounds: u64) -> Result<u64, Memory> {
     let texts = texts_of(alloc, lists)?;
     let mut sum = 0u64;

@@ -1,5 +1,5 @@
-//! Ordered accessors: so many keys of 20 bytes, and so many look-ups at random, half of them at keys
-//! that are there and half between two.
+//! Ordered accessors: keys of 20 bytes, and look-ups at random, half of them at keys that are there
+//! and half between two.
 ghost use Rattle.std.specs.Prelude.{◌≡◌, ◌<◌};
 ghost use Rattle.word_file.specs.Paired.{IsPaired, key_offsets};
 
@@ -10,8 +10,8 @@ use std::alloc::Global;
 use std::sync::ledger::{Blank, Ledger};
 use word_file::{WordFile, WordWriter, is_paired, keys_ascend};
 
-/// Keys for so many places, spread over all that 20 bytes can be: those with odd numbers are in the
-/// file, and those with even numbers lie below, between and above them.
+/// Keys for `places` places, spread over all that 20 bytes can be: those with odd numbers are in
+/// the file, and those with even numbers lie below, between and above them.
 #[derive(Clone, Copy)]
 struct Keys {
     places: u64,
@@ -47,7 +47,7 @@ fn written(alloc: Global, keys: &Keys) -> Result<WordFile, Memory> {
     Ok(writer.finish())
 }
 
-// The sum of the places that so many look-ups answer.
+// The sum of the places that `looks` look-ups answer.
 fn sought<L: Ledger>(
     words: &WordFile,
     index: &BTreeFile,
@@ -77,7 +77,7 @@ fn sought<L: Ledger>(
     sum
 }
 
-/// The sum of the places of so many look-ups among so many keys; none where memory runs out.
+/// The sum of the places of `looks` look-ups among `count` keys; none where memory runs out.
 pub fn sum_of_ordered<L: Ledger>(
     alloc: Global,
     count: u64,

@@ -1,4 +1,4 @@
-//! Word files: so many words of 20 bytes written, checked and walked.
+//! Word files: words of 20 bytes written, checked and walked.
 ghost use Rattle.std.specs.Prelude.{◌≡◌, ◌<◌};
 
 use crate::keys::TAG;
@@ -38,7 +38,7 @@ fn walked<L: Ledger>(file: &WordFile, blank: Blank) -> u64
     sum
 }
 
-/// The sum of the second bytes of so many words; none where memory runs out.
+/// The sum of the second bytes of `count` words; none where memory runs out.
 pub fn sum_of_words<L: Ledger>(alloc: Global, count: u64, blank: Blank) -> Result<u64, Memory>
     requires name { blank.name ≡ L.name }
     requires parts { blank.parts ≡ L.parts }

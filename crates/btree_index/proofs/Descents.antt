@@ -2,7 +2,8 @@
 use Rattle.std.proofs.Common.{◌≡◌, ℕ, zero, suc, ◌+◌, ◌-◌, ◌*◌, ◌^◌, ◌<◌, ◌≤◌, List, length, drop, sym, ap, subst, ◌∙◌, arith}
 use Rattle.std.proofs.lemmas.Grind.{pow_more}
 use Rattle.std.proofs.lemmas.List.{length-drop}
-use Rattle.btree_index.specs.Levels.{entries, levels, levels_below, spelling, AreOffsets}
+use Rattle.file_numbers.specs.Lists.{AreNumbers}
+use Rattle.btree_index.specs.Levels.{entries, levels, levels_below, spelling}
 use Rattle.word_file.specs.Paired.{key_count, key_at, key_offsets, KeysAscend, IsBelow}
 use Rattle.btree_index.specs.Keys.{AreBelow, IsNotBelow, IsLevel, IsFirstNotBelow}
 use Rattle.btree_index.proofs.Spellings.{entry_of, levels_none}
@@ -92,7 +93,7 @@ goes_on words key bytes level i start from to place after before now then_ ascen
   top = omega (arith, d.top);
 }
 
-pub level_here : {words : List (List ℕ)} {key bytes : List ℕ} {level start from to place before now : ℕ} → AreOffsets (key_offsets words) → 0 < level → IsDescending words key bytes level start from to place before now → IsLevel words (level - 1) (drop start bytes)
+pub level_here : {words : List (List ℕ)} {key bytes : List ℕ} {level start from to place before now : ℕ} → AreNumbers (key_offsets words) → 0 < level → IsDescending words key bytes level start from to place before now → IsLevel words (level - 1) (drop start bytes)
 level_here {words} {key} {bytes} {level} {start} fits some d =
     let down : level ≡ suc (level - 1) = omega arith in
     is_level words (drop start bytes) (level - 1) fits (d.part ∙ ap (levels_below (key_offsets words)) down)

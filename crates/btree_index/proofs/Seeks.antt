@@ -7,10 +7,12 @@ use Rattle.std.proofs.lemmas.Bool.{cases_lt, cases_Bool, leb-true}
 use Rattle.std.proofs.lemmas.List.{length-append, drop_at, drop-drop}
 use Rattle.std.proofs.lemmas.List.FromFn.{length-map-range_with_len, get_or-map-range_with_len}
 use Rattle.std.proofs.Math.Nat.{mul-le-mul_right}
-use Rattle.btree_index.specs.Levels.{entries, level, levels, top_from, offset_bytes, levels_below, header, spelling, AreOffsets}
+use Rattle.file_numbers.specs.Lists.{number_bytes, AreNumbers}
+use Rattle.btree_index.specs.Levels.{entries, level, levels, top_from, levels_below, header, spelling}
 use Rattle.word_file.specs.Paired.{key_count, key_offset, key_offsets}
 use Rattle.btree_index.specs.Keys.{IsLevel}
-use Rattle.btree_index.proofs.Spellings.{entry_of, entry_past, stride_some, length-offset_bytes, number_at, levels_suc}
+use Rattle.file_numbers.proofs.Listed.{length-number_bytes, number_at}
+use Rattle.btree_index.proofs.Spellings.{entry_of, entry_past, stride_some, levels_suc}
 
 pub length-key_offsets : (words : List (List ℕ)) → length (key_offsets words) ≡ key_count words
 length-key_offsets words = length-map-range_with_len (key_offset words) 0 (key_count words)
@@ -31,16 +33,16 @@ entries_few n j =
 
 -- ---- a level as bytes
 
-fits_at : (offsets : List ℕ) (i : ℕ) → AreOffsets offsets → get_or offsets i 0 < 2 ^ 64
+fits_at : (offsets : List ℕ) (i : ℕ) → AreNumbers offsets → get_or offsets i 0 < 2 ^ 64
 fits_at [] i fits = omega arith
 fits_at (x ∷ xs) zero fits = fits.0
 fits_at (x ∷ xs) (suc i) fits = fits_at xs i fits.1
 
-pub all_fit : (f : ℕ → ℕ) (a n : ℕ) → ((k : ℕ) → f k < 2 ^ 64) → AreOffsets (map f (range_with_len a n))
+pub all_fit : (f : ℕ → ℕ) (a n : ℕ) → ((k : ℕ) → f k < 2 ^ 64) → AreNumbers (map f (range_with_len a n))
 all_fit f a zero fits = tt
 all_fit f a (suc n) fits = (fits a, all_fit f (a + 1) n fits)
 
-level_fits : (offsets : List ℕ) (j : ℕ) → AreOffsets offsets → AreOffsets (level offsets j)
+level_fits : (offsets : List ℕ) (j : ℕ) → AreNumbers offsets → AreNumbers (level offsets j)
 unfolding level
 level_fits offsets j fits = all_fit (λ k. slice_index offsets (k * 16 ^ j)) 0 (entries (length offsets) j) (λ k. fits_at offsets (k * 16 ^ j) fits)
 
@@ -56,7 +58,7 @@ level_reads words j k lt =
     get_or-map-range_with_len (λ i. slice_index (key_offsets words) (i * 16 ^ j)) 0 (entries (length (key_offsets words)) j) k k 0 more (omega arith)
     ∙ get_or-map-range_with_len (key_offset words) 0 (key_count words) (k * 16 ^ j) (k * 16 ^ j) 0 (entry_of k (key_count words) j lt) (omega arith)
 
-pub is_level : (words : List (List ℕ)) (part : List ℕ) (j : ℕ) → AreOffsets (key_offsets words) → part ≡ levels_below (key_offsets words) (suc j) → IsLevel words j part
+pub is_level : (words : List (List ℕ)) (part : List ℕ) (j : ℕ) → AreNumbers (key_offsets words) → part ≡ levels_below (key_offsets words) (suc j) → IsLevel words j part
 unfolding levels_below
 is_level words part j fits is =
     let offsets = key_offsets words in
@@ -64,7 +66,7 @@ is_level words part j fits is =
     let rest = levels_below offsets j in
     let len : length here ≡ entries (key_count words) j = length-level offsets j ∙ ap (λ (n : ℕ). entries n j) (length-key_offsets words) in
     record {
-      long = omega (arith, ap length is, length-append (offset_bytes here) rest, length-offset_bytes here, len);
+      long = omega (arith, ap length is, length-append (number_bytes here) rest, length-number_bytes here, len);
       reads = λ k lt.
           ap (λ (b : List ℕ). from_be_bytes w64 (drop (8 * k) b)) is
           ∙ (number_at k here rest (level_fits offsets j fits) (omega (arith, len)) ∙ level_reads words j k lt);
@@ -75,8 +77,8 @@ unfolding levels_below
 next_part words bytes start j is =
     let offsets = key_offsets words in
     let here = level offsets j in
-    let len : length (offset_bytes here) ≡ 8 * entries (key_count words) j = length-offset_bytes here ∙ ap (λ (n : ℕ). 8 * n) (length-level offsets j ∙ ap (λ (n : ℕ). entries n j) (length-key_offsets words)) in
-    sym (drop-drop (8 * entries (key_count words) j) start bytes) ∙ ap (drop (8 * entries (key_count words) j)) is ∙ drop_at (offset_bytes here) (levels_below offsets j) (8 * entries (key_count words) j) len
+    let len : length (number_bytes here) ≡ 8 * entries (key_count words) j = length-number_bytes here ∙ ap (λ (n : ℕ). 8 * n) (length-level offsets j ∙ ap (λ (n : ℕ). entries n j) (length-key_offsets words)) in
+    sym (drop-drop (8 * entries (key_count words) j) start bytes) ∙ ap (drop (8 * entries (key_count words) j)) is ∙ drop_at (number_bytes here) (levels_below offsets j) (8 * entries (key_count words) j) len
 
 pub first_part : (words : List (List ℕ)) (bytes : List ℕ) → bytes ≡ spelling (key_offsets words) → drop 16 bytes ≡ levels_below (key_offsets words) (levels (key_count words))
 unfolding spelling header

@@ -1,17 +1,17 @@
 -- Levels and their spelling.
 use Rattle.std.proofs.Common.{◌≡◌, ℕ, zero, suc, ◌+◌, ◌-◌, ◌*◌, ◌^◌, ◌%◌, ◌/◌, ◌<◌, ◌≤◌, false, eqb, List, [], ◌∷◌, ◌++◌, length, map, get_or, drop, bit_and, refl, sym, ap, subst, ◌∙◌, append_assoc, arith, inl, inr}
-use Rattle.std.specs.List.{range_with_len, flat_map}
+use Rattle.std.specs.List.{range_with_len}
 use Rattle.std.specs.Int.{div_ceil, w32, w64, to_be_bytes, from_be_bytes}
 use Rattle.std.proofs.lemmas.List.{append-nil, length-append, drop_at, drop-drop}
-use Rattle.std.proofs.lemmas.List.Concat.{flat_map-append}
 use Rattle.std.proofs.lemmas.Bool.{cases_order, ne_eqb, le-leb, lt-leb}
 use Rattle.std.proofs.lemmas.List.FromFn.{fill_by_all, map-range_with_len_more}
 use Rattle.std.proofs.lemmas.Grind.{div_ceil_times, pow_more}
 use Rattle.std.proofs.lemmas.Nat.{pow-add, and_mask, shr_split}
 use Rattle.std.proofs.Math.Nat.{mul-le-mul_left, mul-le-mul_right, pow-le-pow_right, one-le-pow}
 use Rattle.std.specs.Prelude.{slice_index}
-use Rattle.file_numbers.proofs.Numbers.{wide64}
-use Rattle.btree_index.specs.Levels.{entries, level, levels, top_from, offset_bytes, levels_below, header, spelling, offsets_at, offsets_in, AreOffsets, IsHeld}
+use Rattle.file_numbers.proofs.Listed.{length-number_bytes, numbers_at_again, number_at, number_bytes-push}
+use Rattle.file_numbers.specs.Lists.{number_bytes, numbers_at, AreNumbers}
+use Rattle.btree_index.specs.Levels.{entries, level, levels, top_from, levels_below, header, spelling, offsets_in, IsHeld}
 
 -- ---- entries
 
@@ -26,37 +26,6 @@ pub entry_ge : (k n s : ℕ) → 0 < s → div_ceil n s ≤ k → n ≤ k * s
 entry_ge k n s pos le =
     let times : div_ceil n s * s ≤ k * s = mul-le-mul_right s le in
     omega (arith, (div_ceil_times n s pos).0, times)
-
--- ---- numbers of eight bytes
-
-pub length-offset_bytes : (offsets : List ℕ) → length (offset_bytes offsets) ≡ 8 * length offsets
-unfolding offset_bytes
-length-offset_bytes [] = omega arith
-length-offset_bytes (x ∷ xs) = omega (arith, length-append (to_be_bytes w64 x) (flat_map (to_be_bytes w64) xs), length-offset_bytes xs)
-
-pub offsets_at_again : (offsets rest : List ℕ) → AreOffsets offsets → offsets_at (length offsets) (offset_bytes offsets ++ rest) ≡ offsets
-unfolding offset_bytes offsets_at
-offsets_at_again [] rest fits = refl
-offsets_at_again (x ∷ xs) rest fits =
-    let regrouped : offset_bytes (x ∷ xs) ++ rest ≡ to_be_bytes w64 x ++ (offset_bytes xs ++ rest) = append_assoc (to_be_bytes w64 x) (offset_bytes xs) rest in
-    ap (offsets_at (suc (length xs))) regrouped ∙ rw (wide64.again x (offset_bytes xs ++ rest) fits.0, offsets_at_again xs rest fits.1) refl
-
--- the number at a place
-pub number_at : (k : ℕ) (offsets rest : List ℕ) → AreOffsets offsets → k < length offsets → from_be_bytes w64 (drop (8 * k) (offset_bytes offsets ++ rest)) ≡ get_or offsets k 0
-unfolding offset_bytes
-number_at k [] rest fits lt = omega arith
-number_at zero (x ∷ xs) rest fits lt = wide64.again x (offset_bytes xs ++ rest) fits.0
-number_at (suc k) (x ∷ xs) rest fits lt =
-    let eight : 8 * suc k ≡ 8 + 8 * k = omega arith in
-    let regrouped : offset_bytes (x ∷ xs) ++ rest ≡ to_be_bytes w64 x ++ (offset_bytes xs ++ rest) = append_assoc (to_be_bytes w64 x) (offset_bytes xs) rest in
-    let past : drop (8 * suc k) (offset_bytes (x ∷ xs) ++ rest) ≡ drop (8 * k) (offset_bytes xs ++ rest) =
-    rw (eight, ← drop-drop (8 * k) 8 (offset_bytes (x ∷ xs) ++ rest)) (ap (λ (b : List ℕ). drop (8 * k) (drop 8 b)) regrouped)
-    in
-    ap (from_be_bytes w64) past ∙ number_at k xs rest fits.1 (omega arith)
-
-pub offset_bytes_push : (offsets : List ℕ) (offset : ℕ) → offset_bytes (offsets ++ offset ∷ []) ≡ offset_bytes offsets ++ to_be_bytes w64 offset
-unfolding offset_bytes
-offset_bytes_push offsets offset = flat_map-append (to_be_bytes w64) offsets (offset ∷ [])
 
 -- ---- levels
 
@@ -122,12 +91,12 @@ level_zero offsets =
     let all : map f (range_with_len 0 (entries n 0)) ≡ map f (range_with_len 0 n) = ap (λ (m : ℕ). map f (range_with_len 0 m)) (entries_zero n) in
     all ∙ sym (fill_by_all f offsets n 0 refl (λ k lt. let once : k * 16 ^ 0 ≡ k = omega arith in ap (λ (i : ℕ). get_or offsets i 0) (sym once)))
 
-levels_tail : (offsets : List ℕ) (j : ℕ) → (upper : List ℕ) × (levels_below offsets (suc j) ≡ upper ++ offset_bytes offsets)
+levels_tail : (offsets : List ℕ) (j : ℕ) → (upper : List ℕ) × (levels_below offsets (suc j) ≡ upper ++ number_bytes offsets)
 unfolding levels_below
-levels_tail offsets zero = ([], append-nil (offset_bytes (level offsets 0)) ∙ ap offset_bytes (level_zero offsets))
+levels_tail offsets zero = ([], append-nil (number_bytes (level offsets 0)) ∙ ap number_bytes (level_zero offsets))
 levels_tail offsets (suc j) =
     let below = levels_tail offsets j in
-    (offset_bytes (level offsets (suc j)) ++ below.0, ap (λ (x : List ℕ). offset_bytes (level offsets (suc j)) ++ x) below.1 ∙ sym (append_assoc (offset_bytes (level offsets (suc j))) below.0 (offset_bytes offsets)))
+    (number_bytes (level offsets (suc j)) ++ below.0, ap (λ (x : List ℕ). number_bytes (level offsets (suc j)) ++ x) below.1 ∙ sym (append_assoc (number_bytes (level offsets (suc j))) below.0 (number_bytes offsets)))
 
 levels_some : (m : ℕ) → (j : ℕ) × (levels (suc m) ≡ suc j)
 unfolding levels
@@ -138,24 +107,24 @@ levels_some m =
     (t, rw some more)
 
 -- the lowest level stands last
-pub spelling_tail : (offsets : List ℕ) → (upper : List ℕ) × (spelling offsets ≡ upper ++ offset_bytes offsets)
-unfolding spelling offset_bytes
+pub spelling_tail : (offsets : List ℕ) → (upper : List ℕ) × (spelling offsets ≡ upper ++ number_bytes offsets)
+unfolding spelling number_bytes
 spelling_tail [] = (spelling [], sym (append-nil (spelling [])))
 spelling_tail (x ∷ xs) =
     let offsets = x ∷ xs in
     let some = levels_some (length xs) in
     let below = levels_tail offsets some.0 in
     let head = header (length offsets) in
-    (head ++ below.0, ap (λ (j : ℕ). head ++ levels_below offsets j) some.1 ∙ ap (λ (t : List ℕ). head ++ t) below.1 ∙ sym (append_assoc head below.0 (offset_bytes offsets)))
+    (head ++ below.0, ap (λ (j : ℕ). head ++ levels_below offsets j) some.1 ∙ ap (λ (t : List ℕ). head ++ t) below.1 ∙ sym (append_assoc head below.0 (number_bytes offsets)))
 
 -- ---- what is seen in a spelling
 
-last_part : (upper offsets : List ℕ) → drop (length (upper ++ offset_bytes offsets) - 8 * length offsets) (upper ++ offset_bytes offsets) ≡ offset_bytes offsets
+last_part : (upper offsets : List ℕ) → drop (length (upper ++ number_bytes offsets) - 8 * length offsets) (upper ++ number_bytes offsets) ≡ number_bytes offsets
 last_part upper offsets =
-    let len : length (upper ++ offset_bytes offsets) - 8 * length offsets ≡ length upper = omega (arith, length-append upper (offset_bytes offsets), length-offset_bytes offsets) in
-    rw len (drop_at upper (offset_bytes offsets) (length upper) refl)
+    let len : length (upper ++ number_bytes offsets) - 8 * length offsets ≡ length upper = omega (arith, length-append upper (number_bytes offsets), length-number_bytes offsets) in
+    rw len (drop_at upper (number_bytes offsets) (length upper) refl)
 
-pub last_of_spelling : (offsets bytes : List ℕ) → bytes ≡ spelling offsets → drop (length bytes - 8 * length offsets) bytes ≡ offset_bytes offsets
+pub last_of_spelling : (offsets bytes : List ℕ) → bytes ≡ spelling offsets → drop (length bytes - 8 * length offsets) bytes ≡ number_bytes offsets
 last_of_spelling offsets bytes is =
     let tail = spelling_tail offsets in
     ap (λ (b : List ℕ). drop (length b - 8 * length offsets) b) (is ∙ tail.1) ∙ last_part tail.0 offsets
@@ -163,29 +132,25 @@ last_of_spelling offsets bytes is =
 pub spelling_long : (offsets bytes : List ℕ) → bytes ≡ spelling offsets → 8 * length offsets ≤ length bytes
 spelling_long offsets bytes is =
     let tail = spelling_tail offsets in
-    omega (arith, ap length (is ∙ tail.1), length-append tail.0 (offset_bytes offsets), length-offset_bytes offsets)
+    omega (arith, ap length (is ∙ tail.1), length-append tail.0 (number_bytes offsets), length-number_bytes offsets)
 
-pub seen : (offsets bytes : List ℕ) (count : ℕ) → AreOffsets offsets → count ≡ length offsets → bytes ≡ spelling offsets → offsets_in count bytes ≡ offsets
+pub seen : (offsets bytes : List ℕ) (count : ℕ) → AreNumbers offsets → count ≡ length offsets → bytes ≡ spelling offsets → offsets_in count bytes ≡ offsets
 unfolding offsets_in
 seen offsets bytes count fits counted is =
-    rw counted (ap (offsets_at (length offsets)) (last_of_spelling offsets bytes is ∙ sym (append-nil (offset_bytes offsets))) ∙ offsets_at_again offsets [] fits)
+    rw counted (ap (numbers_at (length offsets)) (last_of_spelling offsets bytes is ∙ sym (append-nil (number_bytes offsets))) ∙ numbers_at_again offsets [] fits)
 
-pub held : (offsets bytes : List ℕ) (count : ℕ) → AreOffsets offsets → count ≡ length offsets → bytes ≡ spelling offsets → IsHeld count bytes
+pub held : (offsets bytes : List ℕ) (count : ℕ) → AreNumbers offsets → count ≡ length offsets → bytes ≡ spelling offsets → IsHeld count bytes
 held offsets bytes count fits counted is =
     let same = seen offsets bytes count fits counted is in
     record { counted = rw same counted; fits = rw same fits; spelled = rw same is }
 
-pub are_offsets : (offsets : List ℕ) → ((i : ℕ) → get_or offsets i 0 < 2 ^ 64) → AreOffsets offsets
-are_offsets [] fits = tt
-are_offsets (x ∷ xs) fits = (fits 0, are_offsets xs (λ i. fits (suc i)))
-
 -- the number at a place of the lowest level, counted from the end
-pub read_last : (offsets bytes : List ℕ) (place : ℕ) → AreOffsets offsets → bytes ≡ spelling offsets → place < length offsets → from_be_bytes w64 (drop (length bytes - 8 * (length offsets - place)) bytes) ≡ get_or offsets place 0
+pub read_last : (offsets bytes : List ℕ) (place : ℕ) → AreNumbers offsets → bytes ≡ spelling offsets → place < length offsets → from_be_bytes w64 (drop (length bytes - 8 * (length offsets - place)) bytes) ≡ get_or offsets place 0
 read_last offsets bytes place fits is lt =
     let start = length bytes - 8 * length offsets in
     let at : length bytes - 8 * (length offsets - place) ≡ start + 8 * place = omega (arith, spelling_long offsets bytes is) in
-    let part : drop (length bytes - 8 * (length offsets - place)) bytes ≡ drop (8 * place) (offset_bytes offsets ++ []) =
-    ap (λ (k : ℕ). drop k bytes) at ∙ sym (drop-drop (8 * place) start bytes) ∙ ap (drop (8 * place)) (last_of_spelling offsets bytes is ∙ sym (append-nil (offset_bytes offsets)))
+    let part : drop (length bytes - 8 * (length offsets - place)) bytes ≡ drop (8 * place) (number_bytes offsets ++ []) =
+    ap (λ (k : ℕ). drop k bytes) at ∙ sym (drop-drop (8 * place) start bytes) ∙ ap (drop (8 * place)) (last_of_spelling offsets bytes is ∙ sym (append-nil (number_bytes offsets)))
     in
     ap (from_be_bytes w64) part ∙ number_at place offsets [] fits lt
 
@@ -211,29 +176,29 @@ top_last n j ge le is =
     sym (is ∙ ap (λ (i : ℕ). top_from (15 - i) i n) all)
 
 -- one entry more
-pub level_more : (offsets front out new : List ℕ) (j k : ℕ) → out ≡ front ++ offset_bytes (map (λ i. slice_index offsets (i * 16 ^ j)) (range_with_len 0 k)) → new ≡ out ++ to_be_bytes w64 (slice_index offsets (k * 16 ^ j))
-    → new ≡ front ++ offset_bytes (map (λ i. slice_index offsets (i * 16 ^ j)) (range_with_len 0 (k + 1)))
+pub level_more : (offsets front out new : List ℕ) (j k : ℕ) → out ≡ front ++ number_bytes (map (λ i. slice_index offsets (i * 16 ^ j)) (range_with_len 0 k)) → new ≡ out ++ to_be_bytes w64 (slice_index offsets (k * 16 ^ j))
+    → new ≡ front ++ number_bytes (map (λ i. slice_index offsets (i * 16 ^ j)) (range_with_len 0 (k + 1)))
 level_more offsets front out new j k so_far is =
     let f : ℕ → ℕ = λ i. slice_index offsets (i * 16 ^ j) in
     let some = map f (range_with_len 0 k) in
     let more : map f (range_with_len 0 (k + 1)) ≡ some ++ f k ∷ [] = map-range_with_len_more f 0 k k (omega arith) in
-    is ∙ ap (λ (x : List ℕ). x ++ to_be_bytes w64 (f k)) so_far ∙ append_assoc front (offset_bytes some) (to_be_bytes w64 (f k))
-    ∙ ap (λ (x : List ℕ). front ++ x) (sym (offset_bytes_push some (f k)) ∙ ap offset_bytes (sym more))
+    is ∙ ap (λ (x : List ℕ). x ++ to_be_bytes w64 (f k)) so_far ∙ append_assoc front (number_bytes some) (to_be_bytes w64 (f k))
+    ∙ ap (λ (x : List ℕ). front ++ x) (sym (number_bytes-push some (f k)) ∙ ap number_bytes (sym more))
 
-pub level_all : (offsets front out : List ℕ) (j k : ℕ) → k ≡ entries (length offsets) j → out ≡ front ++ offset_bytes (map (λ i. slice_index offsets (i * 16 ^ j)) (range_with_len 0 k)) → out ≡ front ++ offset_bytes (level offsets j)
+pub level_all : (offsets front out : List ℕ) (j k : ℕ) → k ≡ entries (length offsets) j → out ≡ front ++ number_bytes (map (λ i. slice_index offsets (i * 16 ^ j)) (range_with_len 0 k)) → out ≡ front ++ number_bytes (level offsets j)
 unfolding level
-level_all offsets front out j k all is = is ∙ ap (λ (n : ℕ). front ++ offset_bytes (map (λ i. slice_index offsets (i * 16 ^ j)) (range_with_len 0 n))) all
+level_all offsets front out j k all is = is ∙ ap (λ (n : ℕ). front ++ number_bytes (map (λ i. slice_index offsets (i * 16 ^ j)) (range_with_len 0 n))) all
 
 pub entry_of : (k n j : ℕ) → k < entries n j → k * 16 ^ j < n
 unfolding entries
 entry_of k n j lt = entry_lt k n (16 ^ j) (stride_some j) lt
 
 -- one level more
-pub below_more : (offsets out new whole : List ℕ) (j i : ℕ) → 0 < j → i ≡ j - 1 → out ++ levels_below offsets j ≡ whole → new ≡ out ++ offset_bytes (level offsets i) → new ++ levels_below offsets i ≡ whole
+pub below_more : (offsets out new whole : List ℕ) (j i : ℕ) → 0 < j → i ≡ j - 1 → out ++ levels_below offsets j ≡ whole → new ≡ out ++ number_bytes (level offsets i) → new ++ levels_below offsets i ≡ whole
 unfolding levels_below
 below_more offsets out new whole j i some i-is so_far is =
     let j-is : j ≡ suc i = omega arith in
-    ap (λ (x : List ℕ). x ++ levels_below offsets i) is ∙ append_assoc out (offset_bytes (level offsets i)) (levels_below offsets i)
+    ap (λ (x : List ℕ). x ++ levels_below offsets i) is ∙ append_assoc out (number_bytes (level offsets i)) (levels_below offsets i)
     ∙ ap (λ (k : ℕ). out ++ levels_below offsets k) (sym j-is) ∙ so_far
 
 pub below_all : (offsets out whole : List ℕ) (j : ℕ) → j ≤ 0 → out ++ levels_below offsets j ≡ whole → out ≡ whole
@@ -242,8 +207,8 @@ below_all offsets out whole j none so_far =
     let zero-is : j ≡ 0 = omega arith in
     sym (append-nil out) ∙ ap (λ (k : ℕ). out ++ levels_below offsets k) (sym zero-is) ∙ so_far
 
-pub level_none : (front : List ℕ) → front ≡ front ++ offset_bytes []
-unfolding offset_bytes
+pub level_none : (front : List ℕ) → front ≡ front ++ number_bytes []
+unfolding number_bytes
 level_none front = sym (append-nil front)
 
 pub begun : (offsets out0 out1 out2 out3 : List ℕ) (n : ℕ) → n ≡ levels (length offsets) → out0 ≡ [] → out1 ≡ out0 ++ to_be_bytes w32 0x4147_4231 → out2 ≡ out1 ++ to_be_bytes w32 n → out3 ≡ out2 ++ to_be_bytes w64 (length offsets)
@@ -260,7 +225,7 @@ begun offsets out0 out1 out2 out3 n n-is e0 e1 e2 e3 =
 
 pub record IsHeldAs (count : ℕ) (bytes offsets : List ℕ) : Type 0 where
   pub counted : count ≡ length offsets
-  pub fits : AreOffsets offsets
+  pub fits : AreNumbers offsets
   pub spelled : bytes ≡ spelling offsets
 
 pub held_as : {count : ℕ} {bytes : List ℕ} (v : List ℕ) → IsHeld count bytes → offsets_in count bytes ≡ v → IsHeldAs count bytes v

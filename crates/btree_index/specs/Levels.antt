@@ -1,7 +1,8 @@
 -- The levels over a list of offsets, and their spelling.
-use Rattle.std.specs.Prelude.{◌≡◌, ℕ, zero, suc, ◌+◌, ◌-◌, ◌*◌, ◌^◌, ◌<◌, nat_le, ◌==◌, if◌then◌else◌, List, [], ◌∷◌, ◌++◌, length, map, drop, slice_index}
-use Rattle.std.specs.List.{range_with_len, flat_map, AllByRecursion}
-use Rattle.std.specs.Int.{div_ceil, w32, w64, to_be_bytes, from_be_bytes}
+use Rattle.std.specs.Prelude.{◌≡◌, ℕ, zero, suc, ◌+◌, ◌-◌, ◌*◌, ◌^◌, nat_le, ◌==◌, if◌then◌else◌, List, [], ◌++◌, length, map, drop, slice_index}
+use Rattle.std.specs.List.{range_with_len}
+use Rattle.std.specs.Int.{div_ceil, w32, w64, to_be_bytes}
+use Rattle.file_numbers.specs.Lists.{number_bytes, numbers_at, AreNumbers}
 
 -- how many of the places 0, 16^j, 2 * 16^j and so on are below n
 unfoldable pub entries : ℕ → ℕ → ℕ
@@ -20,14 +21,10 @@ top_from (suc more) j n = if nat_le (entries n j) 16 then j else top_from more (
 unfoldable pub levels : ℕ → ℕ
 levels n = if n == 0 then 0 else top_from 15 0 n + 1
 
--- offsets of eight bytes
-unfoldable pub offset_bytes : List ℕ → List ℕ
-offset_bytes offsets = flat_map (to_be_bytes w64) offsets
-
 -- the levels below j, the highest first
 unfoldable pub levels_below : List ℕ → ℕ → List ℕ
 levels_below offsets zero = []
-levels_below offsets (suc j) = offset_bytes (level offsets j) ++ levels_below offsets j
+levels_below offsets (suc j) = number_bytes (level offsets j) ++ levels_below offsets j
 
 -- `AGB1`, the number of levels, and the number of keys
 unfoldable pub header : ℕ → List ℕ
@@ -37,20 +34,12 @@ header n = to_be_bytes w32 0x4147_4231 ++ to_be_bytes w32 (levels n) ++ to_be_by
 unfoldable pub spelling : List ℕ → List ℕ
 spelling offsets = header (length offsets) ++ levels_below offsets (levels (length offsets))
 
--- the offsets at the front of bytes
-unfoldable pub offsets_at : ℕ → List ℕ → List ℕ
-offsets_at zero bytes = []
-offsets_at (suc n) bytes = from_be_bytes w64 bytes ∷ offsets_at n (drop 8 bytes)
-
 -- the lowest level, which lists all and stands last
 unfoldable pub offsets_in : ℕ → List ℕ → List ℕ
-offsets_in count bytes = offsets_at count (drop (length bytes - 8 * count) bytes)
-
-abbrev pub AreOffsets : List ℕ → Type 0
-AreOffsets offsets = AllByRecursion (λ offset. offset < 2 ^ 64) offsets
+offsets_in count bytes = numbers_at count (drop (length bytes - 8 * count) bytes)
 
 -- the bytes are the spelling of what is seen in them
 pub record IsHeld (count : ℕ) (bytes : List ℕ) : Type 0 where
   pub counted : count ≡ length (offsets_in count bytes)
-  pub fits : AreOffsets (offsets_in count bytes)
+  pub fits : AreNumbers (offsets_in count bytes)
   pub spelled : bytes ≡ spelling (offsets_in count bytes)

@@ -2,7 +2,8 @@ ghost use Rattle.std.specs.Prelude.{◌≡◌, ℕ, ◌+◌, ◌*◌, ◌<◌, �
 ghost use Rattle.word_file.specs.Difference.{first_difference};
 ghost use Rattle.word_file.specs.Spelling.{StartsAt, IsPlace, offset_of};
 ghost use Rattle.word_file.specs.Paired.{IsPaired, key_offsets};
-ghost use Rattle.btree_index.specs.Levels.{level, offset_bytes, header, spelling};
+ghost use Rattle.file_numbers.specs.Lists.{number_bytes};
+ghost use Rattle.btree_index.specs.Levels.{level, header, spelling};
 ghost use Rattle.word_file.specs.Agreement.{GoesOn, PartsAt};
 
 use crate::levels::{MAGIC, entries_of, levels_of, stride_of};
@@ -18,7 +19,7 @@ fn after_header(bytes: &[u8], count: u64) -> Result<usize, usize>
     follow(bytes, levels, &count.to_be_bytes())
 }
 
-/// The offset of the key that is so many after the one at `at`.
+/// The offset of the key that is `keys` keys after the one at `at`.
 fn key_on(words: &WordFile, at: u64, keys: u64) -> Option<u64>
     requires { StartsAt words.now.words at }
     ensures { (i : ℕ) → IsPlace words.now.words at i → result ≡ offset_of words.now.words (i + 2 * keys) }
@@ -36,8 +37,8 @@ fn after_walked(bytes: &[u8], at: usize, words: &WordFile, j: u32) -> Result<usi
     requires level { j < 16 }
     requires at { at ≤ length bytes.now }
     requires paired { IsPaired words.now.words }
-    ensures end { IfOk result (λ end. GoesOn bytes.now (offset_bytes (level (key_offsets words.now.words) j)) at end) }
-    ensures place { IfErr result (λ place. PartsAt bytes.now (offset_bytes (level (key_offsets words.now.words) j)) at place) }
+    ensures end { IfOk result (λ end. GoesOn bytes.now (number_bytes (level (key_offsets words.now.words) j)) at end) }
+    ensures place { IfErr result (λ place. PartsAt bytes.now (number_bytes (level (key_offsets words.now.words) j)) at place) }
 {
     let stride = stride_of(j);
     let mut end = at;
@@ -60,9 +61,9 @@ fn after_read(
 ) -> Result<usize, usize>
     requires level { j < 16 }
     requires at { at ≤ length bytes.now }
-    requires lowest { drop lowest bytes.now ≡ offset_bytes (key_offsets words.now.words) }
-    ensures end { IfOk result (λ end. GoesOn bytes.now (offset_bytes (level (key_offsets words.now.words) j)) at end) }
-    ensures place { IfErr result (λ place. PartsAt bytes.now (offset_bytes (level (key_offsets words.now.words) j)) at place) }
+    requires lowest { drop lowest bytes.now ≡ number_bytes (key_offsets words.now.words) }
+    ensures end { IfOk result (λ end. GoesOn bytes.now (number_bytes (level (key_offsets words.now.words) j)) at end) }
+    ensures place { IfErr result (λ place. PartsAt bytes.now (number_bytes (level (key_offsets words.now.words) j)) at place) }
 {
     let stride = stride_of(j);
     let mut end = at;
@@ -84,9 +85,9 @@ fn after_level(
     requires level { j < 16 }
     requires at { at ≤ length bytes.now }
     requires paired { IsPaired words.now.words }
-    requires lowest { IfSome lowest (λ from. drop from bytes.now ≡ offset_bytes (key_offsets words.now.words)) }
-    ensures end { IfOk result (λ end. GoesOn bytes.now (offset_bytes (level (key_offsets words.now.words) j)) at end) }
-    ensures place { IfErr result (λ place. PartsAt bytes.now (offset_bytes (level (key_offsets words.now.words) j)) at place) }
+    requires lowest { IfSome lowest (λ from. drop from bytes.now ≡ number_bytes (key_offsets words.now.words)) }
+    ensures end { IfOk result (λ end. GoesOn bytes.now (number_bytes (level (key_offsets words.now.words) j)) at end) }
+    ensures place { IfErr result (λ place. PartsAt bytes.now (number_bytes (level (key_offsets words.now.words) j)) at place) }
 {
     match lowest {
         Some(from) => after_read(bytes, at, words, j, from),
@@ -97,7 +98,7 @@ fn after_level(
 /// Where the lowest level stands, if the bytes end with it as it is to be.
 fn lowest_in(bytes: &[u8], words: &WordFile) -> Option<usize>
     requires { IsPaired words.now.words }
-    ensures { IfSome result (λ from. drop from bytes.now ≡ offset_bytes (key_offsets words.now.words)) }
+    ensures { IfSome result (λ from. drop from bytes.now ≡ number_bytes (key_offsets words.now.words)) }
 {
     let count = words.count() / 2;
     if count > bytes.len() as u64 / 8 {

@@ -1,5 +1,6 @@
 ghost use Rattle.std.specs.Prelude.{◌≡◌, ℕ, ◌+◌, ◌-◌, ◌*◌, ◌/◌, ◌^◌, ◌<◌, ◌≤◌, ◌++◌, length, drop, slice_index, IfOk, OnOk};
-ghost use Rattle.btree_index.specs.Levels.{entries, level, levels, top_from, offset_bytes, levels_below, spelling};
+ghost use Rattle.file_numbers.specs.Lists.{number_bytes};
+ghost use Rattle.btree_index.specs.Levels.{entries, level, levels, top_from, levels_below, spelling};
 
 use agg_outside::Memory;
 use file_numbers::{put_u32, put_u64};
@@ -8,7 +9,7 @@ use std::alloc::Global;
 /// `AGB1`.
 pub(crate) const MAGIC: u32 = 0x4147_4231;
 
-/// How many entries the level has over so many keys.
+/// How many entries the level has over `count` keys.
 #[tactic(auto, unfolding(crate::specs::Levels::entries))]
 pub(crate) fn entries_of(count: u64, level: u32) -> u64
     requires { level < 16 }
@@ -28,7 +29,7 @@ pub(crate) fn stride_of(level: u32) -> u64
     1 << (4 * level)
 }
 
-/// How many levels there are over so many keys.
+/// How many levels there are over `count` keys.
 #[tactic(auto, unfolding(crate::specs::Levels::levels))]
 pub(crate) fn levels_of(count: u64) -> u32
     ensures value { result ≡ levels count }
@@ -54,7 +55,7 @@ fn top_of(count: u64) -> u32
 
 fn put_level(out: &mut Vec<u8>, offsets: &[u64], j: u32) -> Result<(), Memory>
     requires { j < 16 }
-    ensures { OnOk result (out.new.items ≡ out.old.items ++ offset_bytes (level offsets.now j)) }
+    ensures { OnOk result (out.new.items ≡ out.old.items ++ number_bytes (level offsets.now j)) }
 {
     let stride = stride_of(j);
     let entries = entries_of(offsets.len() as u64, j);

@@ -1,8 +1,9 @@
 -- Numbers of 2, 4 and 8 bytes at the front of bytes.
-use Rattle.std.proofs.Common.{◌≡◌, ℕ, ◌+◌, ◌^◌, ◌<◌, ◌≤◌, List, ◌∷◌, ◌++◌, length, get_or, take, drop, refl, sym, arith, inl, inr}
+use Rattle.std.proofs.Common.{◌≡◌, ℕ, ◌+◌, ◌-◌, ◌^◌, ◌<◌, ◌≤◌, List, [], ◌∷◌, ◌++◌, length, get_or, take, drop, refl, sym, ap, ◌∙◌, arith, inl, inr}
+use borrow.Rule.Slice.PartMut.{put_mid}
 use Rattle.std.specs.Int.{Width, w16, w32, w64, byte_len, from_be_bytes, to_be_bytes}
 use Rattle.std.proofs.lemmas.Bool.{cases_lt}
-use Rattle.std.proofs.lemmas.List.{take-append-drop, length-take, length-drop, get_or-drop, get_or-take, get_or_past, drop-drop}
+use Rattle.std.proofs.lemmas.List.{append-nil, drop_all, take_all, take-append-drop, length-take, length-drop, get_or-drop, get_or-take, get_or_past, drop-drop}
 use Rattle.std.proofs.lemmas.Nat.{be_bytes_2, be_bytes_4, be_bytes_8, from_be_bytes-to_be_bytes_2, from_be_bytes-to_be_bytes_4, from_be_bytes-to_be_bytes_8}
 
 abbrev pub AreBytes : List ℕ → Type 0
@@ -65,3 +66,11 @@ number_takes w limit wide k bytes fits le =
     let long : byte_len w ≤ length (drop k bytes) = omega (arith, length-drop k bytes) in
     let front = wide.back (drop k bytes) long (AreBytes-drop k bytes fits) in
     rw (front, ← drop-drop (byte_len w) k bytes) (sym (take-append-drop (byte_len w) (drop k bytes)))
+
+-- what is written over the front of what stands from `at` on
+pub over_at : (at : ℕ) (xs ys cells : List ℕ) → ys ≡ cells ++ drop 8 (take (length xs - at) (drop at xs)) → put_mid at (length xs - at) xs ys ≡ take at xs ++ (cells ++ drop (at + 8) xs)
+over_at at xs ys cells is =
+    let none : drop (length xs - at) (drop at xs) ≡ [] = drop_all (length xs - at) (drop at xs) (omega (arith, length-drop at xs)) in
+    let all : take (length xs - at) (drop at xs) ≡ drop at xs = take_all (length xs - at) (drop at xs) (omega (arith, length-drop at xs)) in
+    let front : ys ≡ cells ++ drop (at + 8) xs = is ∙ ap (λ (t : List ℕ). cells ++ drop 8 t) all ∙ ap (λ (t : List ℕ). cells ++ t) (drop-drop 8 at xs) in
+    ap (λ (t : List ℕ). take at xs ++ (ys ++ t)) none ∙ ap (λ (t : List ℕ). take at xs ++ t) (append-nil ys ∙ front)

@@ -21,3 +21,18 @@ fn numbers_are_read_where_they_stand(rt: HostRuntime) {
     assert_eq!(rt; u32_at(&bytes, 1), 0x0102_0304);
     assert_eq!(rt; u64_at(&bytes, 1), 0x0102_0304_0506_0708);
 }
+
+#[test]
+fn numbers_of_a_list_stand_one_after_the_other(rt: HostRuntime) -> Result<(), Fail> {
+    let mut out = Vec::new(rt.alloc());
+    put_numbers(&mut out, &[1, 0x0203]).ok().ok_or("memory")?;
+    assert!(rt; out.as_slice() == b"\0\0\0\0\0\0\0\x01\0\0\0\0\0\0\x02\x03".as_slice());
+    Ok(())
+}
+
+#[test]
+fn a_number_is_written_over_what_stands_there(rt: HostRuntime) {
+    let mut bytes = [9; 10];
+    set_u64(&mut bytes, 1, 0x0102_0304_0506_0708);
+    assert!(rt; bytes.as_slice() == [9, 1, 2, 3, 4, 5, 6, 7, 8, 9].as_slice());
+}

@@ -5,8 +5,8 @@ use Rattle.std.proofs.lemmas.List.{append-nil, length-append, length-map, map-ap
 use Rattle.std.proofs.lemmas.List.Concat.{flat_map-append}
 use Rattle.recsplit_index.specs.declared.keys.HashedKey.{HashedKey}
 use Rattle.recsplit_index.specs.declared.buckets.Built.{Built}
-use Rattle.recsplit_index.specs.Nodes.{Node, offsets_of, PutsNode}
-use Rattle.recsplit_index.specs.Index.{bucket_count, bucket_node, nodes_from, nodes_of, starts_from, slots_of, bits_of_nodes, Holds, HoldsAll}
+use Rattle.recsplit_index.specs.Nodes.{Node, node, offsets_of, PutsNode}
+use Rattle.recsplit_index.specs.Index.{bucket_count, bucket_keys, bucket_node, nodes_from, nodes_of, starts_from, slots_of, bits_of_nodes, Holds, HoldsAll}
 
 -- the nodes so far, and what is left of them
 pub record IsBuilding (tries buckets : ℕ) (keys : List HashedKey) (i : ℕ) (starts : List ℕ) (codes : List Bool) (offsets : List ℕ) : Type 0 where
@@ -37,7 +37,7 @@ from_by : (tries buckets : ℕ) (keys : List HashedKey) (more i : ℕ) (o : Opti
 unfolding nodes_from
 from_by tries buckets keys more i o is = ap (option_and_then (λ here. option_map (λ rest. here ∷ rest) (nodes_from tries buckets keys more (i + 1)))) is
 
-placed_some : (o : Option Node) (bits : List Bool) (offsets : List ℕ) (new_bits : List Bool) (new_offsets : List ℕ) → PutsNode true o bits offsets new_bits new_offsets → (n : Node) × (o ≡ Some n) × (new_bits ≡ bits ++ n.bits) × (new_offsets ≡ offsets ++ offsets_of n.slots)
+pub placed_some : (o : Option Node) (bits : List Bool) (offsets : List ℕ) (new_bits : List Bool) (new_offsets : List ℕ) → PutsNode true o bits offsets new_bits new_offsets → (n : Node) × (o ≡ Some n) × (new_bits ≡ bits ++ n.bits) × (new_offsets ≡ offsets ++ offsets_of n.slots)
 placed_some None bits offsets new_bits new_offsets p = absurd cc
 placed_some (Some n) bits offsets new_bits new_offsets p = (n, refl, p.1, p.2)
 
@@ -47,6 +47,10 @@ placed_none (Some n) bits offsets new_bits new_offsets p = absurd cc
 
 offsets-append : (xs ys : List HashedKey) → offsets_of (xs ++ ys) ≡ offsets_of xs ++ offsets_of ys
 offsets-append xs ys = map-append (λ key. key.offset) xs ys
+
+-- what is put of a group is its bucket's node
+pub group_puts : (placed : Bool) (tries buckets i : ℕ) (keys group : List HashedKey) (codes codes2 : List Bool) (offsets offsets2 : List ℕ) → group ≡ bucket_keys buckets keys i → PutsNode placed (node (length group) tries 0 group) codes offsets codes2 offsets2 → PutsNode placed (bucket_node tries buckets keys i) codes offsets codes2 offsets2
+group_puts placed tries buckets i keys group codes codes2 offsets offsets2 is puts = subst (λ (g : List HashedKey). PutsNode placed (node (length g) tries 0 g) codes offsets codes2 offsets2) is puts
 
 -- one bucket more
 pub building_more : (tries buckets : ℕ) (keys : List HashedKey) (i : ℕ) (starts starts2 : List ℕ) (codes codes2 : List Bool) (offsets offsets2 : List ℕ) → i < buckets → IsBuilding tries buckets keys i starts codes offsets → starts2 ≡ starts ++ (length offsets ∷ length codes ∷ [])
@@ -73,34 +77,53 @@ building_more tries buckets keys i starts starts2 codes codes2 offsets offsets2 
       codes_are = found.2 ∙ ap (λ (l : List Bool). l ++ n.bits) b.codes_are ∙ ap (λ (l : List Bool). bits_of_nodes b.done ++ l) (sym (append-nil n.bits)) ∙ sym (flat_map-append (λ m. m.bits) b.done (n ∷ []));
     }
 
-holds_none : (o : Option (List Node)) → None ≡ o → HoldsAll None o
+-- a bucket without a node
+pub no_nodes : (tries b : ℕ) (keys : List HashedKey) (i : ℕ) (starts : List ℕ) (codes codes2 : List Bool) (offsets offsets2 : List ℕ) → b ≡ bucket_count (length keys) → i < b → IsBuilding tries b keys i starts codes offsets
+    → PutsNode false (bucket_node tries b keys i) codes offsets codes2 offsets2 → nodes_of tries keys ≡ None
+unfolding nodes_of
+no_nodes tries b keys i starts codes codes2 offsets offsets2 b-is lt building puts =
+    let none = placed_none (bucket_node tries b keys i) codes offsets codes2 offsets2 puts in
+    let more : b - i ≡ suc (b - (i + 1)) = omega arith in
+    let next : nodes_from tries b keys (b - i) i ≡ None = ap (λ (m : ℕ). nodes_from tries b keys m i) more ∙ from_by tries b keys (b - (i + 1)) i None none in
+    ap (λ (n : ℕ). nodes_from tries n keys n 0) (sym b-is) ∙ sym building.left ∙ ap (option_map (λ rest. building.done ++ rest)) next
+
+-- the nodes of all buckets, and what was put of them
+pub record AreAll (tries : ℕ) (keys : List HashedKey) (starts : List ℕ) (codes : List Bool) (offsets : List ℕ) : Type 0 where
+  pub nodes : List Node
+  pub nodes_are : nodes_of tries keys ≡ Some nodes
+  pub starts_are : starts ≡ starts_from 0 0 nodes
+  pub offsets_are : offsets ≡ offsets_of (slots_of nodes)
+  pub codes_are : codes ≡ bits_of_nodes nodes
+
+pub all_nodes : (tries b : ℕ) (keys : List HashedKey) (i : ℕ) (starts starts2 : List ℕ) (codes : List Bool) (offsets : List ℕ) → b ≡ bucket_count (length keys) → b ≤ i → IsBuilding tries b keys i starts codes offsets
+    → starts2 ≡ starts ++ (length offsets ∷ length codes ∷ []) → AreAll tries keys starts2 codes offsets
+unfolding nodes_of nodes_from starts_from
+all_nodes tries b keys i starts starts2 codes offsets b-is ge building start =
+    let none : b - i ≡ 0 = omega arith in
+    let all : Some (building.done ++ []) ≡ nodes_from tries b keys b 0 = sym (ap (λ (m : ℕ). option_map (λ rest. building.done ++ rest) (nodes_from tries b keys m i)) none) ∙ building.left in
+    record {
+      nodes = building.done ++ [];
+      nodes_are = ap (λ (n : ℕ). nodes_from tries n keys n 0) (sym b-is) ∙ sym all;
+      starts_are = start ∙ building.starts_are [];
+      offsets_are = building.offsets_are ∙ ap (λ (l : List Node). offsets_of (slots_of l)) (sym (append-nil building.done));
+      codes_are = building.codes_are ∙ ap (λ (l : List Node). bits_of_nodes l) (sym (append-nil building.done));
+    }
+
+-- ---- as they are held
+
+holds_none : (o : Option (List Node)) → o ≡ None → HoldsAll None o
 holds_none None is = tt
 holds_none (Some ns) is = absurd cc
 
--- a bucket without a node
-pub building_fails : (tries : ℕ) (keys : List HashedKey) (i : ℕ) (starts : List ℕ) (codes codes2 : List Bool) (offsets offsets2 : List ℕ) → i < bucket_count (length keys) → IsBuilding tries (bucket_count (length keys)) keys i starts codes offsets
-    → PutsNode false (bucket_node tries (bucket_count (length keys)) keys i) codes offsets codes2 offsets2 → HoldsAll None (nodes_of tries keys)
-unfolding nodes_of
-building_fails tries keys i starts codes codes2 offsets offsets2 lt b puts =
-    let buckets = bucket_count (length keys) in
-    let none = placed_none (bucket_node tries buckets keys i) codes offsets codes2 offsets2 puts in
-    let more : buckets - i ≡ suc (buckets - (i + 1)) = omega arith in
-    let next : nodes_from tries buckets keys (buckets - i) i ≡ None = ap (λ (m : ℕ). nodes_from tries buckets keys m i) more ∙ from_by tries buckets keys (buckets - (i + 1)) i None none in
-    holds_none (nodes_from tries buckets keys buckets 0) (sym (ap (option_map (λ rest. b.done ++ rest)) next) ∙ b.left)
+holds_some : (built : Built) (nodes : List Node) (o : Option (List Node)) → o ≡ Some nodes → Holds built nodes → HoldsAll (Some built) o
+holds_some built nodes o is h = subst (λ (x : Option (List Node)). HoldsAll (Some built) x) (sym is) h
 
-holds_some : (built : Built) (nodes : List Node) (o : Option (List Node)) → Some nodes ≡ o → Holds built nodes → HoldsAll (Some built) o
-holds_some built nodes o is h = subst (λ (x : Option (List Node)). HoldsAll (Some built) x) is h
+pub building_fails : (tries b : ℕ) (keys : List HashedKey) (i : ℕ) (starts : List ℕ) (codes codes2 : List Bool) (offsets offsets2 : List ℕ) → b ≡ bucket_count (length keys) → i < b → IsBuilding tries b keys i starts codes offsets
+    → PutsNode false (bucket_node tries b keys i) codes offsets codes2 offsets2 → HoldsAll None (nodes_of tries keys)
+building_fails tries b keys i starts codes codes2 offsets offsets2 b-is lt building puts = holds_none (nodes_of tries keys) (no_nodes tries b keys i starts codes codes2 offsets offsets2 b-is lt building puts)
 
-pub building_all : (tries : ℕ) (keys : List HashedKey) (i : ℕ) (starts : List ℕ) (built : Built) → bucket_count (length keys) ≤ i → IsBuilding tries (bucket_count (length keys)) keys i starts built.parts.codes built.parts.offsets.items
+pub building_all : (tries b : ℕ) (keys : List HashedKey) (i : ℕ) (starts : List ℕ) (built : Built) → b ≡ bucket_count (length keys) → b ≤ i → IsBuilding tries b keys i starts built.parts.codes built.parts.offsets.items
     → built.starts.items ≡ starts ++ (length built.parts.offsets.items ∷ length built.parts.codes ∷ []) → HoldsAll (Some built) (nodes_of tries keys)
-unfolding nodes_of nodes_from starts_from
-building_all tries keys i starts built ge b start =
-    let buckets = bucket_count (length keys) in
-    let none : buckets - i ≡ 0 = omega arith in
-    let all : Some (b.done ++ []) ≡ nodes_from tries buckets keys buckets 0 = sym (ap (λ (m : ℕ). option_map (λ rest. b.done ++ rest) (nodes_from tries buckets keys m i)) none) ∙ b.left in
-    holds_some built (b.done ++ []) (nodes_from tries buckets keys buckets 0) all
-    (record {
-      starts_are = start ∙ b.starts_are [];
-      offsets_are = b.offsets_are ∙ ap (λ (l : List Node). offsets_of (slots_of l)) (sym (append-nil b.done));
-      codes_are = b.codes_are ∙ ap (λ (l : List Node). bits_of_nodes l) (sym (append-nil b.done));
-    })
+building_all tries b keys i starts built b-is ge building start =
+    let all = all_nodes tries b keys i starts built.starts.items built.parts.codes built.parts.offsets.items b-is ge building start in
+    holds_some built all.nodes (nodes_of tries keys) all.nodes_are (record { starts_are = all.starts_are; offsets_are = all.offsets_are; codes_are = all.codes_are })

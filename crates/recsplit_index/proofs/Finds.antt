@@ -68,7 +68,7 @@ nodes_cut tries buckets keys (suc more) b (suc i) nodes is lt =
       node_is = ap (bucket_node tries buckets keys) at ∙ c.node_is;
     }
 
-nodes_long : (tries buckets : ℕ) (keys : List HashedKey) (more b : ℕ) (nodes : List Node) → nodes_from tries buckets keys more b ≡ Some nodes → length nodes ≡ more
+pub nodes_long : (tries buckets : ℕ) (keys : List HashedKey) (more b : ℕ) (nodes : List Node) → nodes_from tries buckets keys more b ≡ Some nodes → length nodes ≡ more
 unfolding nodes_from
 nodes_long tries buckets keys zero b nodes is = ap length (sym (some_is [] nodes is))
 nodes_long tries buckets keys (suc more) b nodes is =
@@ -77,7 +77,7 @@ nodes_long tries buckets keys (suc more) b nodes is =
 
 -- ---- what stands before a bucket
 
-starts_long : (k s : ℕ) (nodes : List Node) → length (starts_from k s nodes) ≡ 2 * length nodes + 2
+pub starts_long : (k s : ℕ) (nodes : List Node) → length (starts_from k s nodes) ≡ 2 * length nodes + 2
 unfolding starts_from
 starts_long k s [] = omega arith
 starts_long k s (n ∷ ns) = omega (arith, starts_long (k + length n.slots) (s + length n.bits) ns)

@@ -1,5 +1,5 @@
 -- Lists over the keys of a word file.
-use Rattle.std.proofs.Common.{◌≡◌, ◌≢◌, ℕ, ◌+◌, ◌*◌, ◌<◌, ◌≤◌, Bool, true, cond, ◌==◌, List, [], ◌∷◌, ◌++◌, length, map, take, get_or, set, slice_set, Vec, Global, refl, sym, ap, ◌∙◌, arith, inl, inr, add-one, zero-add, Option, Some, None, subst, ltb}
+use Rattle.std.proofs.Common.{◌≡◌, ◌≢◌, ℕ, ◌+◌, ◌*◌, ◌/◌, ◌<◌, ◌≤◌, Bool, true, cond, ◌==◌, List, [], ◌∷◌, ◌++◌, length, map, take, get_or, set, slice_set, Vec, Global, refl, sym, ap, ◌∙◌, arith, inl, inr, add-one, zero-add, Option, Some, None, subst, ltb}
 use Rattle.std.specs.Prelude.{slice_index, slice_index_or}
 use Rattle.std.specs.List.{range_with_len}
 use Rattle.std.specs.Ordering.{nat_cmp}
@@ -18,7 +18,7 @@ use Rattle.recsplit_index.specs.declared.keys.HashedKey.{HashedKey}
 use Rattle.recsplit_index.specs.Hash.{scaled, key_hash}
 use Rattle.word_file.specs.Paired.{IsPaired, key_count, key_at, key_offset, key_offsets}
 use Rattle.recsplit_index.specs.Keys.{hashed_key, hashed_keys, first_by_key, by_key}
-use Rattle.recsplit_index.specs.Index.{bucket_keys}
+use Rattle.recsplit_index.specs.Index.{bucket_count, bucket_keys}
 
 -- where the key of a place stands
 pub key_place : (words : List (List ℕ)) (offsets : List ℕ) (i : ℕ) → offsets ≡ key_offsets words → i < length offsets → IsPlace words (slice_index offsets i) (2 * i)
@@ -151,3 +151,7 @@ pub group_all : (salt : ℕ) (words : List (List ℕ)) (buckets : ℕ) (groups :
 group_all salt words buckets groups next place paired g e =
     let ended = none_past (ltb (2 * place) (length words)) (offset_at words (2 * place)) (sym e ∙ g.at_is) in
     grouped_all buckets groups (hashed_keys salt words) place (omega (arith, ltb-false _ _ ended, paired, length-hashed_keys salt words)) g.grouped
+
+-- the number of buckets over the keys of these words
+pub bucket_number : (salt : ℕ) (words : List (List ℕ)) (count buckets : ℕ) → count ≡ length words → buckets ≡ bucket_count (count / 2) → buckets ≡ bucket_count (length (hashed_keys salt words))
+bucket_number salt words count buckets count-is is = is ∙ ap (λ (n : ℕ). bucket_count (n / 2)) count-is ∙ ap bucket_count (sym (length-hashed_keys salt words))

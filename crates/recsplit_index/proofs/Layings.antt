@@ -1,33 +1,31 @@
--- What is held of a layout.
-use Rattle.std.proofs.Common.{◌≡◌, ℕ, List, length, take, Some, None, refl, sym, ap, subst, ◌∙◌}
-use Rattle.word_file.specs.Difference.{first_difference}
-use Rattle.word_file.proofs.Differences.{same_from_none}
+-- What is held of an accessor.
+use Rattle.std.proofs.Common.{◌≡◌, ℕ, List, refl, sym, subst}
+use Rattle.bit_store.specs.Bits.{text_of}
+use Rattle.bit_store.proofs.Texts.{bits_of-text_of}
 use Rattle.recsplit_index.specs.declared.layout.Layout.{Layout}
-use Rattle.recsplit_index.specs.Spelling.{Index, laid_out, spelling, index_in, AreNumbers, IsHeld}
-use Rattle.recsplit_index.specs.Layout.{IsLayoutOf}
-use Rattle.recsplit_index.proofs.Layouts.{index_with, held_by, seen_by}
+use Rattle.recsplit_index.specs.declared.layout.Shape.{Shape}
+use Rattle.recsplit_index.specs.Spelling.{Index, laid_out, spelling, index_in, IsSpelled, IsHeld}
+use Rattle.recsplit_index.specs.Layout.{IsLayoutOf, IsShapeOf}
+use Rattle.recsplit_index.proofs.Layouts.{seen}
 
 pub laid_same : (l : Layout) (x : Index) → IsLayoutOf l x → laid_out l.form l.salt l.starts.items l.offsets.items l.text ≡ spelling x
 laid_same l x h = rw (h.form_is, h.salt_is, h.starts_are, h.offsets_are, h.text_is) refl
 
-pub layout_held : (l : Layout) (x : Index) (starts count : ℕ) (bytes : List ℕ) → starts ≡ length l.starts.items → count ≡ length l.offsets.items → IsLayoutOf l x → bytes ≡ spelling x → IsHeld l.form l.salt starts count l.bits bytes
-layout_held l x starts count bytes starts-is count-is h is =
-    let one = subst AreNumbers (sym h.starts_are) h.starts_fit in
-    let other = subst AreNumbers (sym h.offsets_are) h.offsets_fit in
-    let held = held_by l.form l.salt l.starts.items l.offsets.items l.text x.bits l.bits bytes one other h.bits_is h.text_is h.back (is ∙ sym (laid_same l x h)) in
-    subst (λ (s : ℕ). IsHeld l.form l.salt s count l.bits bytes) (sym starts-is) (subst (λ (n : ℕ). IsHeld l.form l.salt (length l.starts.items) n l.bits bytes) (sym count-is) held)
+pub shape_seen : (s : Shape) (x : Index) (bytes : List ℕ) → IsShapeOf s x → bytes ≡ spelling x → index_in s.form s.salt s.starts s.count s.bits bytes ≡ x
+shape_seen s x bytes h is =
+    rw (h.form_is, h.salt_is, h.starts_is, h.count_is, h.bits_is) (seen x.form x.salt x.starts x.offsets (text_of x.bits) x.bits bytes h.starts_fit h.offsets_fit (bits_of-text_of x.bits) is)
 
-pub layout_seen : (l : Layout) (x : Index) (starts count : ℕ) (bytes : List ℕ) → starts ≡ length l.starts.items → count ≡ length l.offsets.items → IsLayoutOf l x → bytes ≡ spelling x → index_in l.form l.salt starts count l.bits bytes ≡ x
-layout_seen l x starts count bytes starts-is count-is h is =
-    let one = subst AreNumbers (sym h.starts_are) h.starts_fit in
-    let other = subst AreNumbers (sym h.offsets_are) h.offsets_fit in
-    let whole : index_with l.form l.salt l.starts.items l.offsets.items x.bits ≡ x = rw (h.form_is, h.salt_is, h.starts_are, h.offsets_are) refl in
-    ap (λ (s : ℕ). index_in l.form l.salt s count l.bits bytes) starts-is ∙ ap (λ (n : ℕ). index_in l.form l.salt (length l.starts.items) n l.bits bytes) count-is
-    ∙ seen_by l.form l.salt l.starts.items l.offsets.items l.text x.bits l.bits bytes one other h.bits_is h.back (is ∙ sym (laid_same l x h)) ∙ whole
-
--- bytes that don't differ from what is laid out are the accessor
-pub checked_same : (bytes seen : List ℕ) (l : Layout) (x : Index) → IsLayoutOf l x → seen ≡ bytes → first_difference seen (laid_out l.form l.salt l.starts.items l.offsets.items l.text) ≡ None → bytes ≡ spelling x
-checked_same bytes seen l x h seen-is none = sym seen-is ∙ same_from_none seen (laid_out l.form l.salt l.starts.items l.offsets.items l.text) none ∙ laid_same l x h
-
-pub checked_apart : (bytes seen : List ℕ) (l : Layout) (x : Index) (at : ℕ) → IsLayoutOf l x → seen ≡ bytes → Some at ≡ first_difference seen (laid_out l.form l.salt l.starts.items l.offsets.items l.text) → first_difference bytes (spelling x) ≡ Some at
-checked_apart bytes seen l x at h seen-is e = ap (λ (b : List ℕ). first_difference b (spelling x)) (sym seen-is) ∙ ap (first_difference seen) (sym (laid_same l x h)) ∙ sym e
+pub shape_held : (s : Shape) (x : Index) (bytes : List ℕ) → IsShapeOf s x → bytes ≡ spelling x → IsHeld s.form s.salt s.starts s.count s.bits bytes
+shape_held s x bytes h is =
+    let spelled : IsSpelled x s.form s.salt s.starts s.count s.bits bytes = record {
+      form_is = h.form_is;
+      salt_is = h.salt_is;
+      starts_is = h.starts_is;
+      count_is = h.count_is;
+      bits_is = h.bits_is;
+      starts_fit = h.starts_fit;
+      offsets_fit = h.offsets_fit;
+      spelled = is;
+    }
+    in
+    subst (λ (y : Index). IsSpelled y s.form s.salt s.starts s.count s.bits bytes) (sym (shape_seen s x bytes h is)) spelled

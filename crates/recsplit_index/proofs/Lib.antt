@@ -15,3 +15,5 @@ pub mod Finds
 pub mod Plains
 pub mod Followings
 pub mod Layings
+pub mod Alongside
+pub mod Comparisons

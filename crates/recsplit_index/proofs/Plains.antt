@@ -7,7 +7,8 @@ use Rattle.bit_store.specs.Bits.{text_of}
 use Rattle.word_file.specs.Spelling.{IsPlace}
 use Rattle.recsplit_index.specs.Keys.{hashed_keys, by_key, IsKeyAt, IsNoKey}
 use Rattle.recsplit_index.specs.Hash.{key_hash}
-use Rattle.recsplit_index.specs.Spelling.{Index, spelling, AreNumbers, IsSpelled}
+use Rattle.file_numbers.specs.Lists.{AreNumbers}
+use Rattle.recsplit_index.specs.Spelling.{Index, spelling, IsSpelled}
 use Rattle.recsplit_index.specs.Index.{plain_index, split_index, IsIndexOf}
 use Rattle.recsplit_index.specs.Walks.{IsSplitOver, IsPlainOver, IsOnly}
 use Rattle.recsplit_index.proofs.Layouts.{laid_long, read_number}

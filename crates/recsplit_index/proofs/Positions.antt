@@ -10,6 +10,7 @@ use Rattle.std.proofs.Math.Nat.{mul-le-mul_right, div-lt_iff_lt-mul, div-le_self
 use Rattle.recsplit_index.specs.declared.keys.HashedKey.{HashedKey}
 use Rattle.recsplit_index.specs.Hash.{mix, folded, scaled, position}
 use Rattle.recsplit_index.specs.Nodes.{is_among, all_new, all_differ, by_position}
+use Rattle.recsplit_index.specs.Index.{bucket_keys}
 use Rattle.recsplit_index.proofs.Every.{differ, all_weaker, all_filtered, all_flat, get_after}
 
 -- ---- positions are below the size
@@ -122,6 +123,35 @@ total_count f [] p all = total_zero p
 total_count f (key ∷ keys) p all =
     total_same (count_at f (key ∷ keys)) (λ q. hit (f key) q + count_at f keys q) p (count_more f key keys) ∙ total_both (hit (f key)) (count_at f keys) p
     ∙ omega (arith, total_hit (f key) p all.0, total_count f keys p all.1)
+
+-- not more of them than there are
+total_less : (f : HashedKey → ℕ) (keys : List HashedKey) (p : ℕ) → total (count_at f keys) p ≤ length keys
+unfolding count_at at_place
+total_less f [] p = omega (arith, total_zero p)
+total_less f (key ∷ keys) p =
+    let parts = total_same (count_at f (key ∷ keys)) (λ q. hit (f key) q + count_at f keys q) p (count_more f key keys) ∙ total_both (hit (f key)) (count_at f keys) p in
+    elim (cases_lt (f key) p) [
+      | inl lt ↦ omega (arith, parts, total_hit (f key) p lt, total_less f keys p)
+      | inr ge ↦ omega (arith, parts, total_missed (f key) p ge, total_less f keys p)
+    ]
+
+-- how many keys the buckets before i have
+pub bucket_total : ℕ → List HashedKey → ℕ → ℕ
+bucket_total buckets keys i = total (count_at (λ key. scaled key.hash buckets) keys) i
+
+pub bucket_total_none : (buckets : ℕ) (keys : List HashedKey) → bucket_total buckets keys 0 ≡ 0
+unfolding bucket_total total
+bucket_total_none buckets keys = refl
+
+pub bucket_total_more : (buckets : ℕ) (keys : List HashedKey) (i : ℕ) → bucket_total buckets keys (i + 1) ≡ bucket_total buckets keys i + length (bucket_keys buckets keys i)
+unfolding bucket_total total count_at at_place bucket_keys
+bucket_total_more buckets keys i =
+    let more : i + 1 ≡ suc i = omega arith in
+    ap (total (count_at (λ key. scaled key.hash buckets) keys)) more
+
+pub bucket_total_few : (buckets : ℕ) (keys : List HashedKey) (i : ℕ) → bucket_total buckets keys i ≤ length keys
+unfolding bucket_total
+bucket_total_few buckets keys i = total_less (λ key. scaled key.hash buckets) keys i
 
 range_end : (a p q : ℕ) → a + p ≡ q → range_with_len a (suc p) ≡ range_with_len a p ++ q ∷ []
 range_end a zero q is = let e : a ≡ q = omega (arith, is) in ap (λ (n : ℕ). n ∷ []) e

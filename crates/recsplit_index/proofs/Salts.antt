@@ -26,24 +26,30 @@ some_held b None h = absurd h
 some_held b (Some ns) h = (ns, refl, h)
 
 -- a salt that doesn't
+pub salt_next : (tries : ℕ) (words : List (List ℕ)) (salt : ℕ) → salt < 8 → nodes_of tries (hashed_keys salt words) ≡ None → index_from tries words (8 - salt) salt ≡ index_from tries words 8 0 → index_from tries words (8 - (salt + 1)) (salt + 1) ≡ index_from tries words 8 0
+salt_next tries words salt lt none so_far = sym (step tries words salt None lt none) ∙ so_far
+
 pub salt_more : (tries : ℕ) (words : List (List ℕ)) (salt : ℕ) (keys : List HashedKey) (built : Option Built) → salt < 8 → keys ≡ hashed_keys salt words → built ≡ None → HoldsAll built (nodes_of tries keys)
     → index_from tries words (8 - salt) salt ≡ index_from tries words 8 0 → index_from tries words (8 - (salt + 1)) (salt + 1) ≡ index_from tries words 8 0
 salt_more tries words salt keys built lt keys-are none holds so_far =
     let here : HoldsAll None (nodes_of tries (hashed_keys salt words)) = subst (λ (k : List HashedKey). HoldsAll None (nodes_of tries k)) keys-are (subst (λ (b : Option Built). HoldsAll b (nodes_of tries keys)) none holds) in
-    sym (step tries words salt None lt (none_held (nodes_of tries (hashed_keys salt words)) here)) ∙ so_far
+    salt_next tries words salt lt (none_held (nodes_of tries (hashed_keys salt words)) here) so_far
 
 split_is : (b : Built) (salt : ℕ) (ns : List Node) → Holds b ns → index_with 1 salt b.starts.items b.parts.offsets.items b.parts.codes ≡ split_index salt ns
 unfolding split_index
 split_is b salt ns h = rw (h.starts_are, h.offsets_are, h.codes_are) refl
 
 -- one that does
+pub salt_here : (tries : ℕ) (words : List (List ℕ)) (salt : ℕ) (ns : List Node) → salt < 8 → nodes_of tries (hashed_keys salt words) ≡ Some ns → index_from tries words (8 - salt) salt ≡ index_from tries words 8 0 → split_index salt ns ≡ index_of tries words
+unfolding index_of
+salt_here tries words salt ns lt some so_far = sym (step tries words salt (Some ns) lt some) ∙ so_far
+
 pub salt_found : (tries : ℕ) (words : List (List ℕ)) (salt : ℕ) (keys : List HashedKey) (built : Option Built) (b : Built) → salt < 8 → keys ≡ hashed_keys salt words → built ≡ Some b → HoldsAll built (nodes_of tries keys)
     → index_from tries words (8 - salt) salt ≡ index_from tries words 8 0 → index_with 1 salt b.starts.items b.parts.offsets.items b.parts.codes ≡ index_of tries words
-unfolding index_of
 salt_found tries words salt keys built b lt keys-are some holds so_far =
     let here : HoldsAll (Some b) (nodes_of tries (hashed_keys salt words)) = subst (λ (k : List HashedKey). HoldsAll (Some b) (nodes_of tries k)) keys-are (subst (λ (x : Option Built). HoldsAll x (nodes_of tries keys)) some holds) in
     let found = some_held b (nodes_of tries (hashed_keys salt words)) here in
-    split_is b salt found.0 found.2 ∙ sym (step tries words salt (Some found.0) lt found.1) ∙ so_far
+    split_is b salt found.0 found.2 ∙ salt_here tries words salt found.0 lt found.1 so_far
 
 -- none does
 pub salt_none : (tries : ℕ) (words : List (List ℕ)) (salt : ℕ) → 8 ≤ salt → index_from tries words (8 - salt) salt ≡ index_from tries words 8 0 → plain_index words ≡ index_of tries words

@@ -17,7 +17,7 @@ mix x = folded 31 (folded 27 (folded 30 x * 0xbf58_476d_1ce4_e5b9 % 2 ^ 64) * 0x
 unfoldable pub taken_in : ℕ → ℕ → ℕ
 taken_in hash piece = mix ((bit_xor hash piece + golden) % 2 ^ 64)
 
--- the hash after so many pieces of eight bytes, each the number of its bytes; what the last lacks is 0
+-- the hash after pieces of eight bytes, each the number of its bytes; what the last lacks is 0
 unfoldable pub hash_from : ℕ → ℕ → List ℕ → ℕ
 hash_from zero hash bytes = hash
 hash_from (suc pieces) hash bytes = hash_from pieces (taken_in hash (from_be_bytes w64 bytes)) (drop 8 bytes)
@@ -30,6 +30,6 @@ key_hash salt key = hash_from (div_ceil (length key) 8) (mix ((salt * golden + l
 unfoldable pub scaled : ℕ → ℕ → ℕ
 scaled hash places = hash * places / 2 ^ 64
 
--- the position of a key of this hash among so many places, under a seed and in a node of this depth
+-- the position of a key of this hash in a node of this depth, under a seed, below `places`
 unfoldable pub position : ℕ → ℕ → ℕ → ℕ → ℕ
 position depth seed places hash = scaled (mix ((hash + golden * (2 ^ 20 * (depth + 1) + seed)) % 2 ^ 64)) places

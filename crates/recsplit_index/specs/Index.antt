@@ -54,7 +54,7 @@ abbrev pub or_else : ℕ → Option (List Node) → Index → Index
 or_else salt None other = other
 or_else salt (Some nodes) other = split_index salt nodes
 
--- by the first of so many salts, from this one on, under which each node has its seed
+-- of the salts from this one on, as many as the count says, by the first under which each node has its seed
 unfoldable pub index_from : ℕ → List (List ℕ) → ℕ → ℕ → Index
 index_from tries words zero salt = plain_index words
 index_from tries words (suc more) salt = or_else salt (nodes_of tries (hashed_keys salt words)) (index_from tries words more (salt + 1))

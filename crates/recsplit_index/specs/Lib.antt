@@ -5,3 +5,4 @@ pub mod Spelling
 pub mod Index
 pub mod Walks
 pub mod Layout
+pub mod InPlace

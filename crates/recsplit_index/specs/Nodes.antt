@@ -50,7 +50,7 @@ goes_left depth seed size key = nat_lt (place_under depth seed size key) (left_o
 abbrev pub goes_right : ℕ → ℕ → ℕ → HashedKey → Bool
 goes_right depth seed size key = not (goes_left depth seed size key)
 
--- a seed of a split: exactly so many go left
+-- a seed of a split: as many keys go left as are to
 unfoldable pub is_split_seed : ℕ → List HashedKey → ℕ → Bool
 is_split_seed depth keys seed = count_by (goes_left depth seed (length keys)) keys == left_of (length keys)
 

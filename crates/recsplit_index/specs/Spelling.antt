@@ -1,7 +1,7 @@
 -- What a hash accessor holds, and how it is spelled.
-use Rattle.std.specs.Prelude.{◌≡◌, ℕ, zero, suc, ◌+◌, ◌*◌, ◌^◌, ◌<◌, Bool, List, [], ◌∷◌, ◌++◌, length, take, drop}
-use Rattle.std.specs.List.{flat_map, AllByRecursion}
-use Rattle.std.specs.Int.{w32, w64, to_be_bytes, from_be_bytes}
+use Rattle.std.specs.Prelude.{◌≡◌, ℕ, ◌+◌, ◌*◌, Bool, List, [], ◌∷◌, ◌++◌, length, take, drop}
+use Rattle.std.specs.Int.{w32, w64, to_be_bytes}
+use Rattle.file_numbers.specs.Lists.{number_bytes, numbers_at, AreNumbers}
 use Rattle.bit_store.specs.Bits.{bits_of, text_of}
 
 -- form 1 has a salt; for each bucket, and once for the end, the number of keys and of bits before it;
@@ -13,10 +13,6 @@ pub record Index : Type 0 where
   pub offsets : List ℕ
   pub bits : List Bool
 
--- numbers of eight bytes
-unfoldable pub number_bytes : List ℕ → List ℕ
-number_bytes numbers = flat_map (to_be_bytes w64) numbers
-
 -- `AGH1`, the form, the salt, two bytes 0, the number of keys, the starts, the offsets and the text of the bits
 unfoldable pub laid_out : ℕ → ℕ → List ℕ → List ℕ → List ℕ → List ℕ
 laid_out form salt starts offsets text =
@@ -25,12 +21,7 @@ laid_out form salt starts offsets text =
 abbrev pub spelling : Index → List ℕ
 spelling x = laid_out x.form x.salt x.starts x.offsets (text_of x.bits)
 
--- the numbers at the front of bytes
-unfoldable pub numbers_at : ℕ → List ℕ → List ℕ
-numbers_at zero bytes = []
-numbers_at (suc n) bytes = from_be_bytes w64 bytes ∷ numbers_at n (drop 8 bytes)
-
--- what bytes hold, where they have so many starts, offsets and bits
+-- what bytes hold, where they have these numbers of starts, offsets and bits
 unfoldable pub index_in : ℕ → ℕ → ℕ → ℕ → ℕ → List ℕ → Index
 index_in form salt starts count bits bytes = record {
   form = form;
@@ -40,10 +31,7 @@ index_in form salt starts count bits bytes = record {
   bits = take bits (bits_of (drop (16 + 8 * (starts + count)) bytes));
 }
 
-abbrev pub AreNumbers : List ℕ → Type 0
-AreNumbers numbers = AllByRecursion (λ n. n < 2 ^ 64) numbers
-
--- these bytes are the spelling of x, and have so many starts, offsets and bits
+-- these bytes are the spelling of x, and have these numbers of starts, offsets and bits
 pub record IsSpelled (x : Index) (form salt starts count bits : ℕ) (bytes : List ℕ) : Type 0 where
   pub form_is : form ≡ x.form
   pub salt_is : salt ≡ x.salt

@@ -4,7 +4,8 @@ use Rattle.std.specs.List.{AllByRecursion}
 use Rattle.bit_store.specs.Rice.{StandsAt}
 use Rattle.recsplit_index.specs.declared.keys.HashedKey.{HashedKey}
 use Rattle.recsplit_index.specs.Nodes.{Node, node}
-use Rattle.recsplit_index.specs.Spelling.{spelling, AreNumbers, IsSpelled}
+use Rattle.file_numbers.specs.Lists.{AreNumbers}
+use Rattle.recsplit_index.specs.Spelling.{spelling, IsSpelled}
 use Rattle.recsplit_index.specs.Keys.{by_key}
 use Rattle.recsplit_index.specs.Index.{nodes_of, split_index, plain_index}
 
@@ -17,7 +18,7 @@ pub record IsNodeAt (bits : List Bool) (at depth : ℕ) (keys : List HashedKey) 
   pub node_is : node splits tries depth keys ≡ Some n
   pub stands : StandsAt bits at n.bits
 
--- the node of so many keys
+-- a node of `size` keys
 pub record HasNode (bits : List Bool) (at depth size : ℕ) : Type 0 where
   pub keys : List HashedKey
   pub built : Node
@@ -29,7 +30,7 @@ pub record IsSlotOf (hash slot : ℕ) (keys slots : List HashedKey) : Type 0 whe
   pub within : slot < length keys
   pub only : AllByRecursion (λ key. key.hash ≡ hash → slice_get slots slot ≡ Some key) keys
 
--- the bytes are form 1 over these keys, with so many starts, offsets and bits
+-- the bytes are form 1 over these keys, with these numbers of starts, offsets and bits
 pub record IsSplitOver (keys : List HashedKey) (starts count bits : ℕ) (bytes : List ℕ) : Type 0 where
   pub tries : ℕ
   pub few : tries ≤ 2 ^ 16

@@ -18,7 +18,7 @@ pub(crate) struct Built {
     pub(crate) parts: Parts,
 }
 
-/// The number of buckets over so many keys.
+/// The number of buckets over `keys` keys.
 pub(crate) fn bucket_count(keys: u64) -> u64
     ensures value { result ≡ bucket_count keys }
     ensures some { 0 < keys → 0 < result }

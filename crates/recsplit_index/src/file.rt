@@ -2,15 +2,15 @@ ghost use Rattle.std.specs.Prelude.{◌≡◌, ℕ, ◌+◌, ◌*◌, ◌<◌, �
 ghost use Rattle.word_file.specs.Paired.{IsPaired, KeysDiffer, key_count};
 ghost use Rattle.recsplit_index.specs.Keys.{IsKeyAt, IsNoKey};
 ghost use Rattle.recsplit_index.specs.Spelling.{Index, spelling};
-ghost use Rattle.recsplit_index.specs.Layout.{IsLayoutOf};
+ghost use Rattle.recsplit_index.specs.Layout.{IsShapeOf};
 ghost use Rattle.recsplit_index.specs.Index.{index_of, IsIndexOf};
 ghost use Rattle.word_file.specs.Difference.{first_difference};
 ghost use Rattle.word_file.specs.declared.access.AccessError.TheVariants.{Differs, Memory as NoMemory};
 
-use crate::compare::difference;
+use crate::compare::compare;
 use crate::find::{find_sorted, is_key, offset_of};
 use crate::hash::key_hash;
-use crate::layout::{Layout, layout_of};
+use crate::layout::{Shape, layout_of};
 use crate::spell::lay_out;
 use agg_outside::{Bytes, Memory, Steps};
 use std::alloc::Global;
@@ -40,28 +40,30 @@ impl Model for HashIndex {
 }
 
 /// The accessor that these bytes are.
-fn hold(layout: &Layout, bytes: Bytes) -> HashIndex
-    requires { (x : Index) × IsLayoutOf layout.now x × (bytes ≡ spelling x) }
-    ensures { (x : Index) → IsLayoutOf layout.now x → bytes ≡ spelling x → result ≡ x }
+fn hold(shape: Shape, bytes: Bytes) -> HashIndex
+    requires { (x : Index) × IsShapeOf shape x × (bytes ≡ spelling x) }
+    ensures { (x : Index) → IsShapeOf shape x → bytes ≡ spelling x → result ≡ x }
 {
     HashIndex {
-        form: layout.form,
-        salt: layout.salt,
-        starts: layout.starts.len() as u64,
-        count: layout.offsets.len() as u64,
-        bits: layout.bits,
+        form: shape.form,
+        salt: shape.salt,
+        starts: shape.starts,
+        count: shape.count,
+        bits: shape.bits,
         bytes,
     }
 }
 
 impl HashIndex {
-    /// The accessor of the word file. Seeds are looked for below `tries`, and where they are not found
-    /// under any of the eight salts, the form is 0.
+    /// The accessor of the word file. Seeds are looked for below `tries`, and where they are not
+    /// found under any of the eight salts, the form is 0.
     pub fn build(alloc: Global, words: &WordFile, tries: u32) -> Result<HashIndex, Memory>
         requires paired { IsPaired words.now.words }
         requires differ { KeysDiffer words.now.words }
         requires tries { tries ≤ 2 ^ 16 }
-        ensures { IfOk result (λ x. x ≡ index_of tries words.now.words) }
+        ensures ok { IfOk result (λ x. x ≡ index_of tries words.now.words) }
+        // What `find` asks for.
+        ensures of_words { IfOk result (IsIndexOf words.now.words) }
     {
         let layout = layout_of::<Brand>(alloc, words, tries, Blank::new(1))?;
         let bytes = lay_out(
@@ -72,10 +74,12 @@ impl HashIndex {
             layout.offsets.as_slice(),
             layout.text.as_slice(),
         )?;
-        Ok(hold(&layout, Bytes::from_vec(bytes)))
+        Ok(hold(layout.shape(), Bytes::from_vec(bytes)))
     }
 
-    /// The bytes as the accessor of the word file, where they are what `build` gives.
+    /// The bytes as the accessor of the word file, where they are what `build` gives. They are
+    /// followed bucket by bucket; beside them stand the hashes and offsets of the keys, 16 bytes a
+    /// key, and the bits.
     pub fn check(
         alloc: Global,
         bytes: Bytes,
@@ -86,6 +90,8 @@ impl HashIndex {
         requires differ { KeysDiffer words.now.words }
         requires tries { tries ≤ 2 ^ 16 }
         ensures ok { IfOk result (λ x. x ≡ index_of tries words.now.words) }
+        // What `find` asks for.
+        ensures of_words { IfOk result (IsIndexOf words.now.words) }
         // What is accepted is spelled so.
         ensures found { OnOk result (bytes ≡ spelling (index_of tries words.now.words)) }
         // What is spelled so is refused for want of memory alone.
@@ -93,9 +99,10 @@ impl HashIndex {
         // Where the bytes differ first.
         ensures exact { (at : ℕ) → result ≡ Err (Differs at) → first_difference bytes (spelling (index_of tries words.now.words)) ≡ Some at }
     {
-        let layout = layout_of::<Brand>(alloc, words, tries, Blank::new(1))?;
-        match difference(bytes.as_slice(), &layout) {
-            None => Ok(hold(&layout, bytes)),
+        let text = bytes.as_slice();
+        let compared = compare::<Brand>(alloc, text, words, tries, Blank::new(1))?;
+        match compared.place {
+            None => Ok(hold(compared.shape, bytes)),
             Some(at) => Err(AccessError::Differs { at: at as u64 }),
         }
     }
@@ -113,8 +120,8 @@ impl HashIndex {
     {
         self.bytes.as_slice()
     }
-    /// The offset of this key's word, and `None` where it is no key of the file. The key is compared with
-    /// the word to which its hash leads, or with the words of a search in form 0.
+    /// The offset of this key's word, and `None` where it is no key of the file. The key is
+    /// compared with the word to which its hash leads, or with the words of a search in form 0.
     pub fn find<L: Ledger>(&self, words: &WordFile, key: &[u8], steps: &mut Steps<L>) -> Option<u64>
         requires { IsIndexOf words.now.words self.now }
         ensures found { IfSome result (λ offset. IsKeyAt words.now.words key.now offset) }

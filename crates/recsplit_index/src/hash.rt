@@ -67,7 +67,8 @@ fn hash_from(start: u64, key: &[u8]) -> u64
     hash
 }
 
-/// The bucket of a hash among so many, and what a position is made of.
+/// The hash scaled down to a number below `places`: the bucket of a key, where `places` is the
+/// number of buckets, and the last step of a position.
 #[tactic(auto, unfolding(crate::specs::Hash::scaled))]
 pub(crate) fn scale(hash: u64, places: u64) -> u64
     ensures value { result ≡ scaled hash places }
@@ -84,7 +85,7 @@ fn shift_of(depth: u64, seed: u32) -> u64
     GOLDEN.wrapping_mul(level.wrapping_add(u64::from(seed)))
 }
 
-/// The position of a key of this hash among so many places.
+/// The position, below `places`, of a key of this hash.
 #[tactic(auto, unfolding(crate::specs::Hash::position))]
 pub(crate) fn position(depth: u64, seed: u32, places: u64, hash: u64) -> u64
     ensures value { result ≡ position depth seed places hash }

@@ -1,7 +1,8 @@
 ghost use Rattle.std.specs.Prelude.{◌≡◌, ◌<◌, ◌≤◌, ◌^◌, [], map, IfOk};
 ghost use Rattle.word_file.specs.Paired.{IsPaired};
 ghost use Rattle.recsplit_index.specs.Index.{plain_index, index_of};
-ghost use Rattle.recsplit_index.specs.Layout.{IsLayoutOf};
+ghost use Rattle.recsplit_index.specs.Spelling.{Index};
+ghost use Rattle.recsplit_index.specs.Layout.{IsLayoutOf, IsShapeOf};
 
 use crate::buckets::{Built, nodes_of};
 use crate::keys::by_key;
@@ -24,7 +25,29 @@ pub(crate) struct Layout {
     pub(crate) text: Bytes,
 }
 
+/// How much of each an accessor holds.
+#[derive(Clone, Copy, Debug, PartialEq, Eq)]
+pub(crate) struct Shape {
+    pub(crate) form: u8,
+    pub(crate) salt: u8,
+    pub(crate) starts: u64,
+    pub(crate) count: u64,
+    pub(crate) bits: u64,
+}
+
 impl Layout {
+    pub(crate) fn shape(&self) -> Shape
+        ensures { (x : Index) → IsLayoutOf self.now x → IsShapeOf result x }
+    {
+        Shape {
+            form: self.form,
+            salt: self.salt,
+            starts: self.starts.len() as u64,
+            count: self.offsets.len() as u64,
+            bits: self.bits,
+        }
+    }
+
     fn of(form: u8, salt: u8, starts: Vec<u64>, offsets: Vec<u64>, codes: RiceWriter) -> Layout
         ensures { IsLayoutOf result (record { form = form; salt = salt; starts = starts.items; offsets = offsets.items; bits = codes }) }
     {
@@ -48,7 +71,11 @@ fn offsets_in(alloc: Global, tree: &BTreeMap<Bytes, u64>) -> Result<Vec<u64>, Me
 }
 
 /// The accessor with the offsets in the order of their keys.
-fn plain<L: Ledger>(alloc: Global, words: &WordFile, steps: &mut Steps<L>) -> Result<Layout, Memory>
+pub(crate) fn plain<L: Ledger>(
+    alloc: Global,
+    words: &WordFile,
+    steps: &mut Steps<L>,
+) -> Result<Layout, Memory>
     requires { IsPaired words.now.words }
     ensures { IfOk result (λ l. IsLayoutOf l (plain_index words.now.words)) }
 {

@@ -5,6 +5,7 @@ mod buckets;
 mod compare;
 mod file;
 mod find;
+mod follow;
 mod hash;
 mod keys;
 mod layout;

@@ -1,4 +1,5 @@
-//! An accessor may go to another thread and be shared among threads; a type that couldn't would be refused here.
+//! An accessor may go to another thread and be shared among threads; a type that couldn't would be
+//! refused here.
 
 use crate::file::HashIndex;
 

@@ -1,21 +1,12 @@
-ghost use Rattle.std.specs.Prelude.{◌≡◌, ◌++◌, IfOk, OnOk};
-ghost use Rattle.recsplit_index.specs.Spelling.{number_bytes, laid_out};
+ghost use Rattle.std.specs.Prelude.{◌≡◌, IfOk};
+ghost use Rattle.recsplit_index.specs.Spelling.{laid_out};
 
 use agg_outside::Memory;
-use file_numbers::{put_u32, put_u64};
+use file_numbers::{put_numbers, put_u32, put_u64};
 use std::alloc::Global;
 
 /// `AGH1`.
 pub(crate) const MAGIC: u32 = 0x4147_4831;
-
-fn put_numbers(out: &mut Vec<u8>, numbers: &[u64]) -> Result<(), Memory>
-    ensures { OnOk result (out.new.items ≡ out.old.items ++ number_bytes numbers.now) }
-{
-    for number in numbers {
-        put_u64(out, *number)?;
-    }
-    Ok(())
-}
 
 /// The bytes of an accessor with these parts.
 #[tactic(auto, unfolding(crate::specs::Spelling::laid_out))]

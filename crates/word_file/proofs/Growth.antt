@@ -1,8 +1,7 @@
 -- A file while it is written.
 use Rattle.std.proofs.Common.{◌≡◌, ℕ, ◌+◌, ◌*◌, ◌^◌, ◌<◌, ◌≤◌, List, [], ◌∷◌, ◌++◌, length, take, drop, refl, sym, ap, ◌∙◌, append_assoc, arith}
 use Rattle.std.specs.Int.{w64, to_be_bytes}
-use borrow.Rule.Slice.PartMut.{put_mid}
-use Rattle.std.proofs.lemmas.List.{append-nil, drop_all, drop-drop, length-take, length-append, take_at, length_push}
+use Rattle.std.proofs.lemmas.List.{append-nil, length-append, take_at, length_push}
 use Rattle.word_file.specs.declared.tag.Tag.{Tag}
 use Rattle.word_file.specs.Spelling.{TaggedWords, IsTag, header, body, word_bytes, spelling, end_of, offset_at, IsPlace}
 use Rattle.word_file.specs.Reading.{words_in, tagged, IsHeld, IsBegun}
@@ -85,11 +84,6 @@ recount tag count rest = refl
 
 abbrev pub counted_over : ℕ → List ℕ → List ℕ
 counted_over count bytes = take 32 bytes ++ (to_be_bytes w64 count ++ drop 40 bytes)
-
-pub over_mid : (xs ys cells : List ℕ) → ys ≡ cells ++ drop 8 (take 8 (drop 32 xs)) → put_mid 32 8 xs ys ≡ take 32 xs ++ (cells ++ drop 40 xs)
-over_mid xs ys cells is =
-    let ys-is : ys ≡ cells = is ∙ ap (λ (t : List ℕ). cells ++ t) (drop_all 8 (take 8 (drop 32 xs)) (omega (arith, length-take 8 (drop 32 xs)))) ∙ append-nil cells in
-    ap (λ (y : List ℕ). take 32 xs ++ (y ++ drop 8 (drop 32 xs))) ys-is ∙ ap (λ (t : List ℕ). take 32 xs ++ (cells ++ t)) (drop-drop 8 32 xs)
 
 spelled_over : {tag : Tag} {count : ℕ} {bytes : List ℕ} → IsBegun tag count bytes → counted_over count bytes ≡ header tag count ++ body (words_in bytes)
 spelled_over {tag} {count} {bytes} h = ap (counted_over count) h.spelled ∙ recount tag count (body (words_in bytes))

@@ -7,3 +7,4 @@ pub mod Differences
 pub mod Gathers
 pub mod Ascents
 pub mod Agreements
+pub mod Sampled

@@ -1,5 +1,5 @@
-/// Why bytes are no word file: the first of these that holds, in this order but that `Short` is told
-/// of the header before `Magic` and of a word after it.
+/// Why bytes are no word file. They are looked at from the front, and the first fault is told: `Short`
+/// of the header, then `Magic`, then `Short` of a word, and last `Count`.
 #[derive(Clone, Copy, Debug, PartialEq, Eq)]
 pub enum WordError {
     /// The header is cut off, and `at` is the file's length; or the word at the offset `at` ends past

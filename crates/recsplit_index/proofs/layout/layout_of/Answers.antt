@@ -1,4 +1,4 @@
-use Rattle.std.proofs.Common.{◌≡◌, ℕ, List, ap, subst, ◌∙◌, refl}
+use Rattle.std.proofs.Common.{ℕ, ap, subst}
 use Rattle.std.proofs.lemmas.Result.{IfOk-weaker}
 use Rattle.recsplit_index.specs.Keys.{hashed_keys}
 use Rattle.recsplit_index.specs.Spelling.{Index}

@@ -1,5 +1,6 @@
 use Rattle.std.proofs.Common.{◌≡◌, ◌-◌, ℕ, List, suc, length, ap, subst, ◌∙◌, arith}
-use Rattle.btree_index.specs.Levels.{entries, levels, spelling, AreOffsets}
+use Rattle.file_numbers.specs.Lists.{AreNumbers}
+use Rattle.btree_index.specs.Levels.{entries, levels, spelling}
 use Rattle.std.proofs.lemmas.List.{take_rest, length-drop}
 use Rattle.word_file.specs.Paired.{key_count, key_offsets}
 use Rattle.btree_index.proofs.Spellings.{held_as, spelling_long, spelling_16}
@@ -16,8 +17,8 @@ loop-level-init g c =
     begins words c.args.key.now c.as_slice-bytes.result.now c.levels_of-level.result c.args.steps.now is (spelling_16 (key_offsets words) _ is) (c.levels_of-level.ensures.value ∙ ap levels count)
     c.levels_of-level.ensures.few (omega (arith, spelling_long (key_offsets words) c.as_slice-bytes.result.now is, length-key_offsets words))
 
-held_fits : (words : List (List ℕ)) (offsets : List ℕ) → offsets ≡ key_offsets words → AreOffsets offsets → AreOffsets (key_offsets words)
-held_fits words offsets is fits = subst (λ (x : List ℕ). AreOffsets x) is fits
+held_fits : (words : List (List ℕ)) (offsets : List ℕ) → offsets ≡ key_offsets words → AreNumbers offsets → AreNumbers (key_offsets words)
+held_fits words offsets is fits = subst (λ (x : List ℕ). AreNumbers x) is fits
 
 held_entries : (words : List (List ℕ)) (offsets : List ℕ) (count result level : ℕ) → offsets ≡ key_offsets words → count ≡ length offsets → result ≡ entries count level → result ≡ entries (key_count words) level
 held_entries words offsets count result level is counted given = given ∙ ap (λ (n : ℕ). entries n level) (counted ∙ ap length is ∙ length-key_offsets words)

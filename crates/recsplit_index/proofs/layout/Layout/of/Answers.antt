@@ -1,5 +1,5 @@
 use Rattle.std.proofs.Common.{refl, arith}
-use Rattle.recsplit_index.proofs.Layouts.{are_numbers_within}
+use Rattle.file_numbers.proofs.Listed.{are_numbers_within}
 use Rattle.recsplit_index.proofs.layout.Layout.of.Goals as goal
 
 pub returns : goal.returns

@@ -1,4 +1,0 @@
-use Rattle.recsplit_index.proofs.tests.only_the_accessor_is_accepted.Given as goal
-
-abbrev pub ghosts-keys_differ : goal.ghosts-keys_differ
-ghosts-keys_differ g a = record { name = a.blank.name; parts = a.blank.parts }
