@@ -12,8 +12,8 @@ const RETRIES: usize = 64;
 
 /// Writes to standard output in order, and counts the calls that it refused.
 ///
-/// A call hands its bytes to the system before it answers, so none wait in a buffer when the program
-/// ends.
+/// A call hands its bytes to the system before it answers, so none wait in a buffer when the
+/// program ends.
 #[derive(Drop)]
 pub struct StdSink<'a, R> {
     rt: &'a R,
@@ -76,14 +76,38 @@ fn write_some<R: Print>(rt: &R, piece: &[u8]) -> io::Result<usize>
 #[cfg(test)]
 mod tests {
     use super::*;
+    use std::alloc::Global;
+    use std::cell::{Cell, RefCell};
     use std::fmt::Display;
     use std::test::Fail;
 
-    /// Takes so many bytes of each piece.
+    /// Is interrupted `left` times. Then it takes at most `most` bytes of each piece, and keeps
+    /// them.
     #[derive(Drop)]
-    struct Takes(usize);
+    struct Noting {
+        left: Cell<usize>,
+        most: usize,
+        taken: RefCell<Vec<u8>>,
+    }
 
-    impl Print for Takes {
+    impl Noting {
+        fn new(alloc: Global, left: usize, most: usize) -> Noting {
+            Noting {
+                left: Cell::new(left),
+                most,
+                taken: RefCell::new(Vec::new(alloc)),
+            }
+        }
+
+        fn has_taken(&self, bytes: &[u8]) -> bool {
+            match self.taken.try_borrow() {
+                Ok(taken) => taken.as_slice() == bytes,
+                Err(_) => false,
+            }
+        }
+    }
+
+    impl Print for Noting {
         fn print<D: Display + Drop>(&self, _value: D) -> io::Result<()> {
             Ok(())
         }
@@ -97,7 +121,19 @@ mod tests {
         }
 
         fn write_some(&self, bytes: &[u8]) -> io::Result<usize> {
-            Ok(self.0.min(bytes.len()))
+            let left = self.left.get();
+            if left > 0 {
+                self.left.set(left - 1);
+                return Err(io::Error::from(ErrorKind::Interrupted));
+            }
+            let piece = &bytes[..self.most.min(bytes.len())];
+            let Ok(mut taken) = self.taken.try_borrow_mut() else {
+                return Err(io::Error::from(ErrorKind::Other));
+            };
+            if taken.extend_from_slice(piece).is_err() {
+                return Err(io::Error::from(ErrorKind::OutOfMemory));
+            }
+            Ok(piece.len())
         }
     }
 
@@ -110,14 +146,31 @@ mod tests {
     }
 
     #[test]
-    fn an_output_that_takes_nothing_has_failed(rt: HostRuntime) -> Result<(), Fail> {
-        let some = Takes(2);
-        let none = Takes(0);
-        let mut sink = StdSink::new(&some);
+    fn the_bytes_go_out_in_order(rt: HostRuntime) {
+        let output = Noting::new(rt.alloc(), 0, 2);
+        let mut sink = StdSink::new(&output);
         assert_eq!(rt; sink.put(b"abc"), Ok(2));
-        let mut sink = StdSink::new(&none);
+        assert_eq!(rt; sink.put(b"cd"), Ok(2));
+        assert!(rt; output.has_taken(b"abcd"));
+    }
+
+    #[test]
+    fn a_write_is_tried_again_after_a_signal(rt: HostRuntime) {
+        let output = Noting::new(rt.alloc(), RETRIES, 1);
+        let mut sink = StdSink::new(&output);
+        assert_eq!(rt; sink.put(b"a"), Ok(1));
+        assert!(rt; output.has_taken(b"a"));
+        let output = Noting::new(rt.alloc(), RETRIES + 1, 1);
+        let mut sink = StdSink::new(&output);
+        assert_eq!(rt; sink.put(b"a").err(), Some(SinkError::Failed));
+        assert!(rt; output.has_taken(b""));
+    }
+
+    #[test]
+    fn an_output_that_takes_nothing_has_failed(rt: HostRuntime) {
+        let output = Noting::new(rt.alloc(), 0, 0);
+        let mut sink = StdSink::new(&output);
         assert_eq!(rt; sink.put(b"abc").err(), Some(SinkError::Failed));
         assert_eq!(rt; sink.put(b""), Ok(0));
-        Ok(())
     }
 }
