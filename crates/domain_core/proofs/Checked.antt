@@ -11,7 +11,7 @@ use Rattle.domain_core.proofs.Words.{below_at, length-pair_keys}
 abbrev pub GoUp : List (List ℕ) → ℕ → Type 0
 GoUp ks n = (p : ℕ) → suc p < n → IsBelow (get_or ks p []) (get_or ks (suc p) [])
 
-KeysAscend-next : (k l : List ℕ) (ks : List (List ℕ)) → IsBelow k l → KeysAscend (l ∷ ks) → KeysAscend (k ∷ l ∷ ks)
+pub KeysAscend-next : (k l : List ℕ) (ks : List (List ℕ)) → IsBelow k l → KeysAscend (l ∷ ks) → KeysAscend (k ∷ l ∷ ks)
 KeysAscend-next k l ks below up =
     (All-cons (IsBelow k) l ks below (λ i z h. nat_list_cmp_total.trans k l (get_or ks i z) below (up.0 i z h)), up)
 

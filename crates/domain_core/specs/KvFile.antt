@@ -5,12 +5,13 @@ use Rattle.agg_model.specs.declared.change.Change.{Change}
 use Rattle.agg_model.specs.declared.contents.Pair.{Pair}
 use Rattle.agg_model.specs.Entity.{entity_number}
 use Rattle.agg_model.specs.Contents.{kv_contents}
-use Rattle.agg_model.specs.Pairs.{IsBelow, KeysAscend, pair_keys}
+use Rattle.agg_model.specs.Pairs.{ArePairs, IsBelow, pair_keys}
 use Rattle.word_file.specs.declared.tag.Tag.{Tag}
 use Rattle.word_file.specs.Spelling.{TaggedWords, spelling}
 use Rattle.word_file.specs.Reading.{tagged}
 use Rattle.word_file.specs.Paired.{key_offsets}
-use Rattle.btree_index.specs.Levels.{levels}
+use Rattle.btree_index.specs.Levels as btree
+use Rattle.hashed_words.specs.Hashed.{accessor_bytes, form_of}
 
 -- what a file is of, and its pairs
 pub record TaggedPairs : Type 0 where
@@ -26,7 +27,7 @@ pairs_of_files files = map (λ f. f.pairs) files
 -- the most words that one look into each of these files reads
 abbrev pub words_read : List TaggedPairs → ℕ
 words_read [] = 0
-words_read (file ∷ files) = (8 * levels (length file.pairs) + 4) + words_read files
+words_read (file ∷ files) = (8 * btree.levels (length file.pairs) + 4) + words_read files
 
 -- a key, its value, the next key and so on
 abbrev pub words_of : List Pair → List (List ℕ)
@@ -43,14 +44,33 @@ pairs_in (key ∷ value ∷ words) = record { key = key; value = value } ∷ pai
 unfoldable pub kv_spelling : TaggedPairs → List ℕ
 kv_spelling f = spelling (tagged f.tag (words_of f.pairs))
 
+-- those of its B-tree and of its hash accessor, and the form of the latter
+unfoldable pub bt_spelling : TaggedPairs → List ℕ
+bt_spelling f = btree.spelling (key_offsets (words_of f.pairs))
+
+unfoldable pub kvi_spelling : TaggedPairs → List ℕ
+kvi_spelling f = accessor_bytes (words_of f.pairs)
+
+unfoldable pub kvi_form : TaggedPairs → ℕ
+kvi_form f = form_of (words_of f.pairs)
+
 -- version 1 of kind 0, over the steps from one on and below another
 abbrev pub kv_tag : Entity → ℕ → ℕ → ℕ → Tag
 kv_tag e size from to = record { entity = entity_number e; kind = 0; version = 1; step = size; from = from; to = to }
 
--- the bytes of the `.kv` file of an entity over these steps, of a list of changes
+-- the `.kv` file of an entity over these steps, of a list of changes
+abbrev pub kv_file_of : ℕ → List Change → Entity → ℕ → ℕ → TaggedPairs
+kv_file_of size changes e from to = tagged_pairs (kv_tag e size from to) (kv_contents size changes e from to)
+
+-- its bytes, and those of its accessors
 unfoldable pub kv_file_bytes : ℕ → List Change → Entity → ℕ → ℕ → List ℕ
-kv_file_bytes size changes e from to =
-    kv_spelling (tagged_pairs (kv_tag e size from to) (kv_contents size changes e from to))
+kv_file_bytes size changes e from to = kv_spelling (kv_file_of size changes e from to)
+
+unfoldable pub bt_file_bytes : ℕ → List Change → Entity → ℕ → ℕ → List ℕ
+bt_file_bytes size changes e from to = bt_spelling (kv_file_of size changes e from to)
+
+unfoldable pub kvi_file_bytes : ℕ → List Change → Entity → ℕ → ℕ → List ℕ
+kvi_file_bytes size changes e from to = kvi_spelling (kv_file_of size changes e from to)
 
 -- the key at a place
 abbrev pub key_at : List Pair → ℕ → List ℕ
@@ -62,8 +82,20 @@ pub record IsFirstNotBelow (pairs : List Pair) (key : List ℕ) (place : ℕ) : 
   pub before : (p : ℕ) → p < place → IsBelow (key_at pairs p) key
   pub behind : (p : ℕ) → place ≤ p → p < length pairs → IsBelow (key_at pairs p) key → ⊥
 
--- the words are pairs with ascending keys, and the index has the offsets of the keys
+-- the words are those of pairs that a file may have
+pub record ArePairWords (words : List (List ℕ)) : Type 0 where
+  pub paired : words ≡ words_of (pairs_in words)
+  pub are : ArePairs (pairs_in words)
+
+-- and the index has the offsets of the keys
 pub record IsHeld (file : TaggedWords) (index : List ℕ) : Type 0 where
-  pub paired : file.words ≡ words_of (pairs_in file.words)
-  pub ascend : KeysAscend (pair_keys (pairs_in file.words))
+  pub words : ArePairWords file.words
   pub indexed : index ≡ key_offsets file.words
+
+-- these are the three files of the pairs under the tag
+pub record AreFilesOf (tag : Tag) (kv bt kvi : List ℕ) (f : TaggedPairs) : Type 0 where
+  pub tag_is : f.tag ≡ tag
+  pub pairs_are : ArePairs f.pairs
+  pub kv_is : kv ≡ kv_spelling f
+  pub bt_is : bt ≡ bt_spelling f
+  pub kvi_is : kvi ≡ kvi_spelling f

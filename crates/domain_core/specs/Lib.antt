@@ -1,1 +1,2 @@
 pub mod KvFile
+pub mod KvRules

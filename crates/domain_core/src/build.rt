@@ -6,14 +6,13 @@ ghost use Rattle.agg_model.specs.Pairs.{IsPair, ArePairs};
 ghost use Rattle.agg_model.specs.declared.change.Change.{Change};
 ghost use Rattle.agg_model.specs.declared.entity.Entity.{Entity};
 ghost use Rattle.word_file.specs.Reading.{tagged};
-ghost use Rattle.domain_core.specs.KvFile.{TaggedPairs, words_of, tagged_pairs, kv_tag, kv_spelling, kv_file_bytes};
+ghost use Rattle.domain_core.specs.KvFile.{TaggedPairs, words_of, tagged_pairs, kv_tag, kv_spelling, bt_spelling, kvi_spelling, kv_file_of, kv_file_bytes, bt_file_bytes, kvi_file_bytes};
 
 use crate::check::are_pairs;
 use crate::kv_file::KvFile;
 use crate::step::step_pairs;
 use agg_model::{Change, Entity, Pair, Pairs, Range};
 use agg_outside::Memory;
-use btree_index::BTreeFile;
 use std::alloc::Global;
 use word_file::{Tag, WordFile, WordWriter};
 
@@ -26,11 +25,25 @@ fn push_pair(writer: &mut WordWriter, pair: &Pair) -> Result<(), Memory>
     Ok(())
 }
 
+// How many bytes the words take.
+fn room_for(pairs: &[Pair]) -> usize {
+    let mut room = 0usize;
+    for pair in pairs {
+        let lengths = pair
+            .key
+            .as_slice()
+            .len()
+            .saturating_add(pair.value.as_slice().len());
+        room = room.saturating_add(lengths).saturating_add(8);
+    }
+    room
+}
+
 fn words_for(alloc: Global, tag: Tag, pairs: &[Pair]) -> Result<WordFile, Memory>
     requires { All IsPair pairs.now }
     ensures { IfOk result (λ words. words ≡ tagged tag (words_of pairs.now)) }
 {
-    let mut writer = WordWriter::new(alloc, tag)?;
+    let mut writer = WordWriter::with_room(alloc, tag, room_for(pairs))?;
     for pair in pairs {
         push_pair(&mut writer, pair)?;
     }
@@ -43,8 +56,7 @@ pub fn build_kv(alloc: Global, tag: Tag, pairs: &Pairs) -> Result<KvFile, Memory
     ensures { IfOk result (λ file. file ≡ tagged_pairs tag pairs.now) }
 {
     let words = words_for(alloc, tag, pairs.as_slice())?;
-    let index = BTreeFile::build(alloc, &words)?;
-    Ok(KvFile::of_parts(words, index))
+    KvFile::of(alloc, words)
 }
 
 /// What the `.kv` file of an entity over these steps says that it is of.
@@ -91,8 +103,18 @@ pub fn file_laws()
     ensures bytes { (size : ℕ) (changes : List Change) (e : Entity) (from to : ℕ) (file : TaggedPairs) →
         file ≡ tagged_pairs (kv_tag e size from to) (kv_contents size changes e from to) →
         kv_spelling file ≡ kv_file_bytes size changes e from to }
-    // Changes from the end of the steps on leave the file alone.
+    ensures bt_bytes { (size : ℕ) (changes : List Change) (e : Entity) (from to : ℕ) (file : TaggedPairs) →
+        file ≡ kv_file_of size changes e from to → bt_spelling file ≡ bt_file_bytes size changes e from to }
+    ensures kvi_bytes { (size : ℕ) (changes : List Change) (e : Entity) (from to : ℕ) (file : TaggedPairs) →
+        file ≡ kv_file_of size changes e from to → kvi_spelling file ≡ kvi_file_bytes size changes e from to }
+    // Changes from the end of the steps on leave the files alone.
     ensures stays { (size : ℕ) (cs ds : List Change) (e : Entity) (from to : ℕ) →
         All (λ d. to * size ≤ d.tx) ds →
         kv_file_bytes size (cs ++ ds) e from to ≡ kv_file_bytes size cs e from to }
+    ensures bt_stays { (size : ℕ) (cs ds : List Change) (e : Entity) (from to : ℕ) →
+        All (λ d. to * size ≤ d.tx) ds →
+        bt_file_bytes size (cs ++ ds) e from to ≡ bt_file_bytes size cs e from to }
+    ensures kvi_stays { (size : ℕ) (cs ds : List Change) (e : Entity) (from to : ℕ) →
+        All (λ d. to * size ≤ d.tx) ds →
+        kvi_file_bytes size (cs ++ ds) e from to ≡ kvi_file_bytes size cs e from to }
 {}

@@ -1,13 +1,20 @@
 //! The `.kv` file of an entity over a range of steps.
-ghost use Rattle.std.specs.Prelude.{◌≡◌, ◌+◌, ◌*◌, ◌<◌, ◌≤◌, length, slice_get, Some};
+ghost use Rattle.std.specs.Prelude.{◌≡◌, ℕ, ◌+◌, ◌*◌, ◌<◌, ◌≤◌, ◌^◌, length, slice_get, IfOk, IfErr, Err, Some};
 ghost use Rattle.std.specs.Option.{option_copied};
 ghost use Rattle.btree_index.specs.Levels.{levels};
-ghost use Rattle.agg_model.specs.Pairs.{word_in};
-ghost use Rattle.domain_core.specs.KvFile.{TaggedPairs, tagged_pairs, pairs_in, kv_spelling, IsFirstNotBelow};
+ghost use Rattle.agg_model.specs.declared.entity.FileKind.{FileKind};
+ghost use Rattle.agg_model.specs.Pairs.{ArePairs, word_in};
+ghost use Rattle.hashed_words.specs.declared.error.FileError.TheVariants.{Bad, Memory as NoMemory};
+ghost use Rattle.domain_core.specs.KvRules.{kv_fault};
+ghost use Rattle.domain_core.specs.KvFile.{TaggedPairs, tagged_pairs, pairs_in, kv_spelling, bt_spelling, kvi_spelling, kvi_form, ArePairWords, AreFilesOf, IsFirstNotBelow};
 
+use crate::open::{open_bt, open_kv};
 use crate::parts::{first_place, look_up, pair_in};
-use agg_outside::Steps;
+use agg_model::FileKind;
+use agg_outside::{Bytes, Memory, Steps};
 use btree_index::BTreeFile;
+use hashed_words::{FileError, HashedWords};
+use std::alloc::Global;
 use std::marker::Model;
 use std::sync::ledger::Ledger;
 use word_file::{Tag, WordFile};
@@ -15,7 +22,7 @@ use word_file::{Tag, WordFile};
 /// Pairs of a key and a value, by key, with what they are of.
 #[derive(Debug, Drop)]
 pub struct KvFile {
-    words: WordFile,
+    words: HashedWords,
     index: BTreeFile,
 }
 
@@ -32,30 +39,92 @@ impl Model for KvFile {
 impl KvFile {
     ghost use Rattle.domain_core.specs.KvFile.{IsHeld};
 
-    pub(crate) fn of_parts(words: WordFile, index: BTreeFile) -> KvFile
+    fn of_parts(words: HashedWords, index: BTreeFile) -> KvFile
         requires { IsHeld words index }
         ensures { result ≡ tagged_pairs words.tag (pairs_in words.words) }
     {
         KvFile { words, index }
     }
 
+    /// The file of words that are known to be those of pairs: its accessors are built.
+    pub fn of(alloc: Global, words: WordFile) -> Result<KvFile, Memory>
+        requires { ArePairWords words.words }
+        ensures { IfOk result (λ file. file ≡ tagged_pairs words.tag (pairs_in words.words)) }
+    {
+        let index = BTreeFile::build(alloc, &words)?;
+        let words = HashedWords::of(alloc, words)?;
+        Ok(KvFile::of_parts(words, index))
+    }
+
+    /// The file of the tag whose three texts these are: the words, their B-tree and their hash accessor.
+    pub fn check(
+        alloc: Global,
+        tag: Tag,
+        kv: Bytes,
+        bt: Bytes,
+        kvi: Bytes,
+    ) -> Result<KvFile, FileError>
+        // What is accepted is spelled so, under this tag.
+        ensures found { IfOk result (λ file. AreFilesOf tag kv bt kvi file) }
+        // What is spelled so is refused for want of memory alone.
+        ensures only { (file : TaggedPairs) → AreFilesOf tag kv bt kvi file → IfErr result (λ e. e ≡ NoMemory) }
+        // Where the first of the three that is wrong is wrong first.
+        ensures exact { (kind : FileKind) (at : ℕ) → result ≡ Err (Bad kind at) → kv_fault tag kv bt kvi ≡ Some (Bad kind at) }
+    {
+        let words = match open_kv(tag, kv) {
+            Ok(words) => words,
+            Err(error) => return Err(error),
+        };
+        let index = match open_bt(alloc, bt, &words) {
+            Ok(index) => index,
+            Err(error) => return Err(error),
+        };
+        match HashedWords::check(alloc, FileKind::Kvi, words, kvi) {
+            Ok(words) => Ok(KvFile::of_parts(words, index)),
+            Err(error) => Err(error),
+        }
+    }
+
     /// What the file is of.
     pub fn tag(&self) -> Tag
         ensures { result ≡ self.now.tag }
     {
-        self.words.tag()
+        self.words.words().tag()
     }
 
     /// The whole file.
     pub fn bytes(&self) -> &[u8]
         ensures { result.now ≡ kv_spelling self.now }
     {
-        self.words.bytes()
+        self.words.words().bytes()
+    }
+
+    /// Its whole B-tree, which is a file of its own.
+    pub fn bt_bytes(&self) -> &[u8]
+        ensures { result.now ≡ bt_spelling self.now }
+    {
+        self.index.bytes()
+    }
+
+    /// Its whole hash accessor, which is a file of its own.
+    pub fn kvi_bytes(&self) -> &[u8]
+        ensures { result.now ≡ kvi_spelling self.now }
+    {
+        self.words.accessor()
+    }
+
+    /// The form of the hash accessor.
+    pub fn form(&self) -> u8
+        ensures { result ≡ kvi_form self.now }
+    {
+        self.words.form()
     }
 
     /// The number of pairs.
     pub fn len(&self) -> u64
-        ensures { result ≡ length self.now.pairs }
+        ensures count { result ≡ length self.now.pairs }
+        // Keys ascend, and lengths are within their limits.
+        ensures pairs { ArePairs self.now.pairs }
     {
         self.index.count()
     }
@@ -63,9 +132,11 @@ impl KvFile {
     /// The stored value of a key, which is empty for a deleted one; `None` where the key isn't there.
     pub fn get<L: Ledger>(&self, key: &[u8], steps: &mut Steps<L>) -> Option<&[u8]>
         ensures value { option_copied result ≡ word_in self.now.pairs key.now }
+        ensures split_steps { kvi_form self.now ≡ 1 → steps.new ≤ steps.old + 2 }
+        ensures plain_steps { (digits : ℕ) → length self.now.pairs < 2 ^ digits → steps.new ≤ steps.old + (digits + 2) }
         ensures steps { steps.new ≤ steps.old + (8 * levels (length self.now.pairs) + 4) }
     {
-        look_up(&self.words, &self.index, key, steps)
+        look_up(&self.words, key, steps)
     }
 
     /// The place of the first key that isn't below this one, or the number of pairs.
