@@ -1,0 +1,10 @@
+pub mod KeyWords
+pub mod Orders
+pub mod Spelled
+pub mod Checked
+pub mod Found
+pub mod FileLaws
+pub mod WordBytes
+pub mod Held
+pub mod Opened
+pub mod Climbs

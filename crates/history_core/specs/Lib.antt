@@ -1,0 +1,4 @@
+pub mod Befores
+pub mod KeyWord
+pub mod Rules
+pub mod VFile
