@@ -1,0 +1,11 @@
+pub mod Climbs
+pub mod PairedLaws
+pub mod TextLaws
+pub mod KeyTests
+pub mod ListWords
+pub mod RuleLaws
+pub mod ContentLaws
+pub mod FittingLists
+pub mod FirstFound
+pub mod Acceptances
+pub mod Views

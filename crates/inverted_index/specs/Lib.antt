@@ -1,0 +1,4 @@
+pub mod PairedWords
+pub mod Climbing
+pub mod EfFile
+pub mod EfRules
