@@ -1,0 +1,5 @@
+mod EntityRuns
+mod KeyRuns
+mod GroupWalks
+mod StepValues
+mod Fits

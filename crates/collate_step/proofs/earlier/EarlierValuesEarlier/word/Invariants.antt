@@ -1,0 +1,4 @@
+use Rattle.collate_step.proofs.earlier.EarlierValuesEarlier.word.Given as goal
+
+abbrev pub ghosts-newest_uncounted : goal.ghosts-newest_uncounted
+ghosts-newest_uncounted a = record { name = a.blank.name; parts = a.blank.parts }
