@@ -77,10 +77,14 @@ impl<K: Keeper> Hot<K> {
     pub fn ingest(&mut self, alloc: Global, batch: &Batch) -> Result<(), RowsError>
         requires apart { HasNoRepeats batch.now }
         requires new { ForSome self.old.told (λ h. All (λ c. IsNew c (changes_seen self.old.epoch h.rows)) batch.now) }
-        ensures ok { IfSome self.old.told (λ h. OnOk result (self.new.told ≡ Some (applied (writes_of (self.old.epoch + 1) batch.now) h))) }
+        ensures ok { IfSome self.old.told
+            (λ h. OnOk result (self.new.told ≡ Some (applied (writes_of (self.old.epoch + 1) batch.now) h))) }
         // The new epoch sees the changes of the one before and those of the batch, and earlier ones see what they saw.
-        ensures changes { IfSome self.old.told (λ h. OnOk result (IsSomeAnd self.new.told (λ k. changes_seen (self.old.epoch + 1) k.rows ≡ arranged_from (changes_seen self.old.epoch h.rows) batch.now))) }
-        ensures earlier { IfSome self.old.told (λ h. OnOk result (IsSomeAnd self.new.told (λ k. SameUpTo self.old.epoch h.rows k.rows))) }
+        ensures changes { IfSome self.old.told (λ h. OnOk result (IsSomeAnd self.new.told
+            (λ k. changes_seen (self.old.epoch + 1) k.rows
+            ≡ arranged_from (changes_seen self.old.epoch h.rows) batch.now))) }
+        ensures earlier { IfSome self.old.told
+            (λ h. OnOk result (IsSomeAnd self.new.told (λ k. SameUpTo self.old.epoch h.rows k.rows))) }
         ensures silent { IfNone self.old.told (self.new.told ≡ None) }
         ensures epoch { OnOk result (self.new.epoch ≡ self.old.epoch + 1) }
         ensures err { OnErr result (self.new ≡ record self.old { faults = self.new.faults }) }
@@ -101,7 +105,8 @@ impl<K: Keeper> Hot<K> {
         from: u64,
         before: u64,
     ) -> Result<Option<Act>, RowsError>
-        ensures act { IfSome self.old.told (λ h. IfOk result (λ act. act ≡ act_of_change (hot_change (changes_seen epoch h.rows) entity key.now from before))) }
+        ensures act { IfSome self.old.told (λ h. IfOk result
+            (λ act. act ≡ act_of_change (hot_change (changes_seen epoch h.rows) entity key.now from before))) }
         ensures same { self.new ≡ record self.old { faults = self.new.faults } }
         ensures unworn { IsUnworn result }
         ensures cause { HasCause RowsError.Keeper self.old.faults self.new.faults result }
@@ -126,7 +131,8 @@ impl<K: Keeper> Hot<K> {
         back: bool,
         limit: usize,
     ) -> Result<Numbers, RowsError>
-        ensures numbers { IfSome self.old.told (λ h. IfOk result (λ numbers. numbers ≡ take limit (window_times back (changes_seen epoch h.rows) entity key.now from to))) }
+        ensures numbers { IfSome self.old.told (λ h. IfOk result
+            (λ numbers. numbers ≡ take limit (window_times back (changes_seen epoch h.rows) entity key.now from to))) }
         ensures same { self.new ≡ record self.old { faults = self.new.faults } }
         ensures unworn { IsUnworn result }
         ensures cause { HasCause RowsError.Keeper self.old.faults self.new.faults result }
@@ -151,7 +157,8 @@ impl<K: Keeper> Hot<K> {
         tx_to: u64,
         limit: usize,
     ) -> Result<Keys, RowsError>
-        ensures keys { IfSome self.old.told (λ h. IfOk result (λ keys. keys ≡ take limit (window_keys (changes_seen epoch h.rows) entity from.now tx_from tx_to))) }
+        ensures keys { IfSome self.old.told (λ h. IfOk result
+            (λ keys. keys ≡ take limit (window_keys (changes_seen epoch h.rows) entity from.now tx_from tx_to))) }
         ensures same { self.new ≡ record self.old { faults = self.new.faults } }
         ensures unworn { IsUnworn result }
         ensures cause { HasCause RowsError.Keeper self.old.faults self.new.faults result }
@@ -168,7 +175,8 @@ impl<K: Keeper> Hot<K> {
         requires step { step < 4096 }
         requires size { size ≤ 2 ^ 32 }
         ensures step { IfOk result (λ rows. rows.step ≡ step) }
-        ensures changes { IfSome self.old.told (λ h. IfOk result (λ rows. rows.changes ≡ changes_of_step size step (changes_seen self.old.epoch h.rows))) }
+        ensures changes { IfSome self.old.told
+            (λ h. IfOk result (λ rows. rows.changes ≡ changes_of_step size step (changes_seen self.old.epoch h.rows))) }
         ensures same { self.new ≡ record self.old { faults = self.new.faults } }
         ensures unworn { IsUnworn result }
         ensures cause { HasCause RowsError.Keeper self.old.faults self.new.faults result }
@@ -193,16 +201,23 @@ impl<K: Keeper> Hot<K> {
         limit: usize,
     ) -> Result<Pruned, RowsError>
         requires floor { ForSome self.old.told (λ h. h.floor ≤ floor) }
-        ensures ok { IfSome self.old.told (λ h. OnOk result (self.new.told ≡ Some (pruned (self.old.epoch + 1) tx floor limit h))) }
-        ensures earlier { IfSome self.old.told (λ h. OnOk result (IsSomeAnd self.new.told (λ k. SameUpTo self.old.epoch h.rows k.rows))) }
-        ensures killed { IfSome self.old.told (λ h. IfOk result (λ pruned. pruned.killed ≡ length (take limit (low_rows tx h.rows)))) }
-        ensures left { IfSome self.old.told (λ h. IfOk result (λ pruned. (pruned.left ≡ 0) ↔ (length (low_rows tx h.rows) ≤ limit))) }
-        ensures epoch { IfSome self.old.told (λ h. OnOk result (self.new.epoch ≡ epoch_pruned self.old.epoch tx floor limit h)) }
+        ensures ok { IfSome self.old.told
+            (λ h. OnOk result (self.new.told ≡ Some (pruned (self.old.epoch + 1) tx floor limit h))) }
+        ensures earlier { IfSome self.old.told
+            (λ h. OnOk result (IsSomeAnd self.new.told (λ k. SameUpTo self.old.epoch h.rows k.rows))) }
+        ensures killed { IfSome self.old.told
+            (λ h. IfOk result (λ pruned. pruned.killed ≡ length (take limit (low_rows tx h.rows)))) }
+        ensures left { IfSome self.old.told
+            (λ h. IfOk result (λ pruned. (pruned.left ≡ 0) ↔ (length (low_rows tx h.rows) ≤ limit))) }
+        ensures epoch { IfSome self.old.told
+            (λ h. OnOk result (self.new.epoch ≡ epoch_pruned self.old.epoch tx floor limit h)) }
         ensures silent { IfNone self.old.told (self.new.told ≡ None) }
         ensures err { OnErr result (self.new ≡ record self.old { faults = self.new.faults }) }
         // The epoch is worn exactly where it stands at its limit and would rise.
-        ensures worn { IsWorn result → (self.old.epoch ≡ 2 ^ 62) × IfSome self.old.told (λ h. does_prune tx floor limit h ≡ true) }
-        ensures rises { self.old.epoch ≡ 2 ^ 62 → IfSome self.old.told (λ h. OnOk result (does_prune tx floor limit h ≡ false)) }
+        ensures worn { IsWorn result → (self.old.epoch ≡ 2 ^ 62) × IfSome self.old.told
+            (λ h. does_prune tx floor limit h ≡ true) }
+        ensures rises { self.old.epoch ≡ 2 ^ 62 → IfSome self.old.told
+            (λ h. OnOk result (does_prune tx floor limit h ≡ false)) }
         ensures cause { HasCause RowsError.Keeper self.old.faults self.new.faults result }
     {
         kill_first(&mut self.rows, alloc, tx, floor, limit)
@@ -221,9 +236,11 @@ impl<K: Keeper> Hot<K> {
 
     /// Removes exactly the rows that were killed at `oldest` or before, and answers how many.
     pub fn purge(&mut self, alloc: Global, oldest: u64) -> Result<u64, RowsError>
-        ensures ok { IfSome self.old.told (λ h. OnOk result (self.new.told ≡ Some (record h { rows = without_dead oldest h.rows }))) }
+        ensures ok { IfSome self.old.told
+            (λ h. OnOk result (self.new.told ≡ Some (record h { rows = without_dead oldest h.rows }))) }
         ensures count { IfSome self.old.told (λ h. IfOk result (λ count. count ≡ length (dead oldest h.rows))) }
-        ensures later { IfSome self.old.told (λ h. OnOk result (IsSomeAnd self.new.told (λ k. SameFrom oldest h.rows k.rows))) }
+        ensures later { IfSome self.old.told
+            (λ h. OnOk result (IsSomeAnd self.new.told (λ k. SameFrom oldest h.rows k.rows))) }
         ensures silent { IfNone self.old.told (self.new.told ≡ None) }
         ensures epoch { self.new.epoch ≡ self.old.epoch }
         ensures err { OnErr result (self.new ≡ record self.old { faults = self.new.faults }) }

@@ -130,7 +130,8 @@ pub fn keys_within<K: Keeper>(
     limit: usize,
 ) -> Result<Keys, RowsError>
     requires { IfSome rows.old.told (AreVersions rows.old.epoch) }
-    ensures keys { IfSome rows.old.told (λ h. IfOk result (λ keys. keys ≡ take limit (window_keys (changes_seen epoch h.rows) entity from.now numbers.from numbers.to))) }
+    ensures keys { IfSome rows.old.told (λ h. IfOk result
+        (λ keys. keys ≡ take limit (window_keys (changes_seen epoch h.rows) entity from.now numbers.from numbers.to))) }
     ensures same { rows.new ≡ record rows.old { faults = rows.new.faults } }
     ensures unworn { IsUnworn result }
     ensures cause { HasCause RowsError.Keeper rows.old.faults rows.new.faults result }

@@ -28,8 +28,10 @@ pub struct FirstIds {
 // answers whether there are more.
 fn note_below(tx: u64, limit: usize, piece: Rowlist, ids: &mut Vec<RowId>) -> Result<bool, Memory>
     requires { length ids.old.items ≤ limit }
-    ensures ids { OnOk result (ids.new.items ≡ take limit (ids.old.items ++ ids_of (filter (has_low_number tx) piece))) }
-    ensures more { IfOk result (λ more. more ≡ nat_lt limit (length (ids.old.items ++ ids_of (filter (has_low_number tx) piece)))) }
+    ensures ids { OnOk result (ids.new.items ≡ take limit
+        (ids.old.items ++ ids_of (filter (has_low_number tx) piece))) }
+    ensures more { IfOk result
+        (λ more. more ≡ nat_lt limit (length (ids.old.items ++ ids_of (filter (has_low_number tx) piece)))) }
 {
     for row in piece.into_vec() {
         if row.id.tx < tx {
@@ -52,7 +54,8 @@ pub fn first_below<K: Keeper>(
 ) -> Result<FirstIds, RowsError>
     requires { IfSome rows.old.told (AreVersions rows.old.epoch) }
     ensures ids { IfSome rows.old.told (λ h. IfOk result (λ low. low.ids.items ≡ pruned_ids tx limit h.rows)) }
-    ensures more { IfSome rows.old.told (λ h. IfOk result (λ low. low.more ≡ nat_lt limit (length (low_rows tx h.rows)))) }
+    ensures more { IfSome rows.old.told
+        (λ h. IfOk result (λ low. low.more ≡ nat_lt limit (length (low_rows tx h.rows)))) }
     ensures same { rows.new ≡ record rows.old { faults = rows.new.faults } }
     ensures unworn { IsUnworn result }
     ensures cause { HasCause RowsError.Keeper rows.old.faults rows.new.faults result }
@@ -133,7 +136,8 @@ fn is_within(numbers: Range, row: &Row) -> bool
 
 // Adds the change of the row, where its number is in the range.
 fn note_change(numbers: Range, row: Row, changes: &mut Batch) -> Result<(), Memory>
-    ensures { OnOk result (changes.new ≡ changes.old ++ filter (is_within_numbers numbers.from numbers.to) (map change_of (row ∷ []))) }
+    ensures { OnOk result (changes.new ≡ changes.old ++ filter (is_within_numbers numbers.from numbers.to)
+        (map change_of (row ∷ []))) }
 {
     if is_within(numbers, &row) {
         let change = change_of(row)?;
@@ -144,7 +148,8 @@ fn note_change(numbers: Range, row: Row, changes: &mut Batch) -> Result<(), Memo
 
 // Adds the changes of the rows of the piece with numbers in the range.
 fn note_changes(numbers: Range, piece: Rowlist, changes: &mut Batch) -> Result<(), Memory>
-    ensures { OnOk result (changes.new ≡ changes.old ++ filter (is_within_numbers numbers.from numbers.to) (map change_of piece)) }
+    ensures { OnOk result (changes.new ≡ changes.old ++ filter (is_within_numbers numbers.from numbers.to)
+        (map change_of piece)) }
 {
     for row in piece.into_vec() {
         note_change(numbers, row, changes)?;
@@ -160,7 +165,8 @@ pub fn changes_within<K: Keeper>(
     numbers: Range,
 ) -> Result<Batch, RowsError>
     requires { IfSome rows.old.told (AreVersions rows.old.epoch) }
-    ensures changes { IfSome rows.old.told (λ h. IfOk result (λ changes. changes ≡ filter (is_within_numbers numbers.from numbers.to) (changes_seen rows.old.epoch h.rows))) }
+    ensures changes { IfSome rows.old.told (λ h. IfOk result (λ changes. changes ≡ filter
+        (is_within_numbers numbers.from numbers.to) (changes_seen rows.old.epoch h.rows))) }
     ensures same { rows.new ≡ record rows.old { faults = rows.new.faults } }
     ensures unworn { IsUnworn result }
     ensures cause { HasCause RowsError.Keeper rows.old.faults rows.new.faults result }

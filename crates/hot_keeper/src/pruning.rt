@@ -53,16 +53,23 @@ pub fn kill_first<K: Keeper>(
     limit: usize,
 ) -> Result<Pruned, RowsError>
     requires { IfSome rows.old.told (AreVersions rows.old.epoch) }
-    ensures ok { IfSome rows.old.told (λ h. OnOk result (rows.new.told ≡ Some (pruned (rows.old.epoch + 1) tx floor limit h))) }
-    ensures earlier { IfSome rows.old.told (λ h. OnOk result (IsSomeAnd rows.new.told (λ k. SameUpTo rows.old.epoch h.rows k.rows))) }
-    ensures killed { IfSome rows.old.told (λ h. IfOk result (λ pruned. pruned.killed ≡ length (take limit (low_rows tx h.rows)))) }
-    ensures left { IfSome rows.old.told (λ h. IfOk result (λ pruned. (pruned.left ≡ 0) ↔ (length (low_rows tx h.rows) ≤ limit))) }
-    ensures epoch { IfSome rows.old.told (λ h. OnOk result (rows.new.epoch ≡ epoch_pruned rows.old.epoch tx floor limit h)) }
+    ensures ok { IfSome rows.old.told
+        (λ h. OnOk result (rows.new.told ≡ Some (pruned (rows.old.epoch + 1) tx floor limit h))) }
+    ensures earlier { IfSome rows.old.told
+        (λ h. OnOk result (IsSomeAnd rows.new.told (λ k. SameUpTo rows.old.epoch h.rows k.rows))) }
+    ensures killed { IfSome rows.old.told
+        (λ h. IfOk result (λ pruned. pruned.killed ≡ length (take limit (low_rows tx h.rows)))) }
+    ensures left { IfSome rows.old.told
+        (λ h. IfOk result (λ pruned. (pruned.left ≡ 0) ↔ (length (low_rows tx h.rows) ≤ limit))) }
+    ensures epoch { IfSome rows.old.told
+        (λ h. OnOk result (rows.new.epoch ≡ epoch_pruned rows.old.epoch tx floor limit h)) }
     ensures sound { IfSome rows.new.told (AreVersions rows.new.epoch) }
     ensures silent { IfNone rows.old.told (rows.new.told ≡ None) }
     ensures err { OnErr result (rows.new ≡ record rows.old { faults = rows.new.faults }) }
-    ensures worn { IsWorn result → (rows.old.epoch ≡ 2 ^ 62) × IfSome rows.old.told (λ h. does_prune tx floor limit h ≡ true) }
-    ensures rises { rows.old.epoch ≡ 2 ^ 62 → IfSome rows.old.told (λ h. OnOk result (does_prune tx floor limit h ≡ false)) }
+    ensures worn { IsWorn result → (rows.old.epoch ≡ 2 ^ 62) × IfSome rows.old.told
+        (λ h. does_prune tx floor limit h ≡ true) }
+    ensures rises { rows.old.epoch ≡ 2 ^ 62 → IfSome rows.old.told
+        (λ h. OnOk result (does_prune tx floor limit h ≡ false)) }
     ensures cause { HasCause RowsError.Keeper rows.old.faults rows.new.faults result }
 {
     let low = first_below(rows, alloc, tx, limit)?;

@@ -34,7 +34,8 @@ pub fn times_up<K: Keeper>(
     limit: usize,
 ) -> Result<Numbers, RowsError>
     requires { IfSome rows.old.told (AreVersions rows.old.epoch) }
-    ensures numbers { IfSome rows.old.told (λ h. IfOk result (λ found. found ≡ take limit (times (changes_seen epoch h.rows) entity key.now numbers.from numbers.to))) }
+    ensures numbers { IfSome rows.old.told (λ h. IfOk result
+        (λ found. found ≡ take limit (times (changes_seen epoch h.rows) entity key.now numbers.from numbers.to))) }
     ensures same { rows.new ≡ record rows.old { faults = rows.new.faults } }
     ensures unworn { IsUnworn result }
     ensures cause { HasCause RowsError.Keeper rows.old.faults rows.new.faults result }
@@ -70,7 +71,8 @@ pub fn times_down<K: Keeper>(
     limit: usize,
 ) -> Result<Numbers, RowsError>
     requires { IfSome rows.old.told (AreVersions rows.old.epoch) }
-    ensures numbers { IfSome rows.old.told (λ h. IfOk result (λ found. found ≡ take limit (reverse (times (changes_seen epoch h.rows) entity key.now numbers.from numbers.to)))) }
+    ensures numbers { IfSome rows.old.told (λ h. IfOk result (λ found. found ≡ take limit
+        (reverse (times (changes_seen epoch h.rows) entity key.now numbers.from numbers.to)))) }
     ensures same { rows.new ≡ record rows.old { faults = rows.new.faults } }
     ensures unworn { IsUnworn result }
     ensures cause { HasCause RowsError.Keeper rows.old.faults rows.new.faults result }

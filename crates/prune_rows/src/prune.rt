@@ -24,16 +24,24 @@ pub fn prune_some<K: Keeper>(
     requires end { end ≤ 4096 }
     requires size { size ≤ 2 ^ 32 }
     requires floor { ForSome hot.old.told (λ h. h.floor ≤ end) }
-    ensures ok { IfSome hot.old.told (λ h. OnOk result (hot.new.told ≡ Some (after_prune (hot.old.epoch + 1) end size oldest limit h))) }
-    ensures killed { IfSome hot.old.told (λ h. IfOk result (λ pruned. pruned.killed ≡ length (take limit (low_rows (end * size) h.rows)))) }
-    ensures left { IfSome hot.old.told (λ h. IfOk result (λ pruned. (pruned.left ≡ 0) ↔ (length (low_rows (end * size) h.rows) ≤ limit))) }
-    ensures epoch { IfSome hot.old.told (λ h. OnOk result (hot.new.epoch ≡ epoch_pruned hot.old.epoch (end * size) end limit h)) }
+    ensures ok { IfSome hot.old.told
+        (λ h. OnOk result (hot.new.told ≡ Some (after_prune (hot.old.epoch + 1) end size oldest limit h))) }
+    ensures killed { IfSome hot.old.told
+        (λ h. IfOk result (λ pruned. pruned.killed ≡ length (take limit (low_rows (end * size) h.rows)))) }
+    ensures left { IfSome hot.old.told
+        (λ h. IfOk result (λ pruned. (pruned.left ≡ 0) ↔ (length (low_rows (end * size) h.rows) ≤ limit))) }
+    ensures epoch { IfSome hot.old.told
+        (λ h. OnOk result (hot.new.epoch ≡ epoch_pruned hot.old.epoch (end * size) end limit h)) }
     // No view that is open at `oldest` or later changes, whatever is answered.
-    ensures views { IfSome hot.old.told (λ h. IsSomeAnd hot.new.told (λ k. SameBetween oldest hot.old.epoch h.rows k.rows)) }
-    ensures err { IfSome hot.old.told (λ h. OnErr result ((hot.new.told ≡ Some h) ⊎ (hot.new.told ≡ Some (pruned (hot.old.epoch + 1) (end * size) end limit h)))) }
+    ensures views { IfSome hot.old.told
+        (λ h. IsSomeAnd hot.new.told (λ k. SameBetween oldest hot.old.epoch h.rows k.rows)) }
+    ensures err { IfSome hot.old.told (λ h. OnErr result
+        ((hot.new.told ≡ Some h) ⊎ (hot.new.told ≡ Some (pruned (hot.old.epoch + 1) (end * size) end limit h)))) }
     ensures silent { IfNone hot.old.told (hot.new.told ≡ None) }
-    ensures worn { IsWorn result → (hot.old.epoch ≡ 2 ^ 62) × IfSome hot.old.told (λ h. does_prune (end * size) end limit h ≡ true) }
-    ensures rises { hot.old.epoch ≡ 2 ^ 62 → IfSome hot.old.told (λ h. OnOk result (does_prune (end * size) end limit h ≡ false)) }
+    ensures worn { IsWorn result → (hot.old.epoch ≡ 2 ^ 62) × IfSome hot.old.told
+        (λ h. does_prune (end * size) end limit h ≡ true) }
+    ensures rises { hot.old.epoch ≡ 2 ^ 62 → IfSome hot.old.told
+        (λ h. OnOk result (does_prune (end * size) end limit h ≡ false)) }
     ensures cause { HasCause RowsError.Keeper hot.old.faults hot.new.faults result }
 {
     let pruned = hot.kill_below(alloc, end * size, end, limit)?;

@@ -4,13 +4,16 @@ ghost use Rattle.agg_model.specs.Batch.{HasNoRepeats};
 use super::*;
 use crate::plain_keeper::PlainKeeper;
 use agg_model::{Act, Batch, Change, Entity};
-use agg_outside::{Bytes, Memory};
+use agg_outside::{Bytes, Memory, Numbers};
 use hot_keeper::{Hot, Low, Pruned};
-use row_epochs::{Rows, RowsError};
+use row_epochs::{Rows, RowsError, first_place};
 use std::alloc::Global;
 use std::test::Fail;
 
 const LIMIT: u64 = 1 << 62;
+
+/// How many rows are compared with a filter.
+const ROWS: u64 = 500;
 
 // One put of accounts.
 fn put_of(alloc: Global, tx: u64, key: u8, value: u8) -> Result<Batch, Memory>
@@ -75,6 +78,98 @@ fn prune_twice(
     let second = prune_some(alloc, hot, 6, 1, open, 1)?;
     let after = value_at(hot, alloc, open, 7)?;
     Ok((first, between, second, after))
+}
+
+// One of 32 keys, at random.
+fn key_at(tx: u64) -> u8 {
+    (tx.wrapping_mul(0x9e37_79b9_7f4a_7c15) >> 59) as u8
+}
+
+fn put_rows(hot: &mut Hot<PlainKeeper>, alloc: Global) -> Result<(), RowsError>
+    requires { hot.old.told ≡ None }
+    ensures { hot.new.told ≡ None }
+{
+    for tx in 0..ROWS {
+        put(hot, alloc, tx, key_at(tx), 1)?;
+    }
+    Ok(())
+}
+
+// The numbers of the key from one on, ascending.
+fn numbers_of(alloc: Global, key: u8, from: u64) -> Result<Vec<u64>, Memory> {
+    let mut numbers = Vec::new(alloc);
+    for tx in from..ROWS {
+        if key_at(tx) == key {
+            numbers.push(tx)?;
+        }
+    }
+    Ok(numbers)
+}
+
+// The key's numbers that an epoch sees.
+fn times_at(
+    hot: &mut Hot<PlainKeeper>,
+    alloc: Global,
+    epoch: u64,
+    key: u8,
+    back: bool,
+) -> Result<Numbers, RowsError> {
+    hot.times(alloc, epoch, Entity::Accounts, &[key], 0, ROWS, back, 500)
+}
+
+// Kills all rows below 200 while the epoch before is open.
+fn prune_to_200(hot: &mut Hot<PlainKeeper>, alloc: Global) -> Result<u64, RowsError>
+    requires { hot.old.told ≡ None }
+{
+    let open = hot.epoch();
+    let _pruned = prune_some(alloc, hot, 4, 50, open, 1000)?;
+    Ok(open)
+}
+
+#[test]
+fn random_rows_answer_as_a_filter_does(rt: HostRuntime) -> Result<(), Fail> {
+    let mut hot = opened(rt.alloc(), 0);
+    put_rows(&mut hot, rt.alloc())?;
+    let open = prune_to_200(&mut hot, rt.alloc())?;
+    let present = hot.epoch();
+    for key in 0..32 {
+        let all = numbers_of(rt.alloc(), key, 0)?;
+        let rest = numbers_of(rt.alloc(), key, 200)?;
+        let seen = times_at(&mut hot, rt.alloc(), open, key, false)?;
+        assert_eq!(rt; seen.as_slice(), all.as_slice());
+        let seen = times_at(&mut hot, rt.alloc(), present, key, false)?;
+        assert_eq!(rt; seen.as_slice(), rest.as_slice());
+        let seen = times_at(&mut hot, rt.alloc(), present, key, true)?;
+        assert_eq!(rt; seen.as_slice().last(), rest.as_slice().first());
+        assert_eq!(rt; seen.len(), rest.len());
+    }
+    Ok(())
+}
+
+#[test]
+fn steps_keys_and_views_answer_what_is_there(rt: HostRuntime) -> Result<(), Fail> {
+    let mut hot = opened(rt.alloc(), 0);
+    put_rows(&mut hot, rt.alloc())?;
+    let open = prune_to_200(&mut hot, rt.alloc())?;
+    assert_eq!(rt; hot.raise(), Ok(()));
+    let present = hot.epoch();
+    assert_eq!(rt; hot.step_rows(rt.alloc(), 3, 50)?.changes.len(), 0);
+    assert_eq!(rt; hot.step_rows(rt.alloc(), 9, 50)?.changes.len(), 50);
+    let keys = hot.keys(rt.alloc(), present, Entity::Accounts, &[8], 0, ROWS, 100)?;
+    assert_eq!(rt; keys.len(), 24);
+    let mut rows = hot.into_rows();
+    let first = first_place(rt.alloc())?;
+    assert_eq!(rt; rows.view_some(rt.alloc(), open, &first, 1000)?.len(), 500);
+    assert_eq!(rt;
+        rows.view_some(rt.alloc(), present, &first, 1000)?.len(),
+        300
+    );
+    assert_eq!(rt; rows.view_some(rt.alloc(), present, &first, 7)?.len(), 7);
+    assert!(rt; rows.row_from(rt.alloc(), &first)?.is_some());
+    assert!(rt; rows.row_before(rt.alloc(), &first)?.is_none());
+    assert_eq!(rt; rows.floor()?, 4);
+    assert_eq!(rt; rows.purge(rt.alloc(), present)?, 200);
+    Ok(())
 }
 
 #[test]

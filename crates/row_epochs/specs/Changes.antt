@@ -5,7 +5,8 @@ use Rattle.agg_outside.specs.declared.rows.Row.{Row}
 use Rattle.agg_outside.specs.declared.rows.RowWrite.{RowWrite}
 use Rattle.agg_outside.specs.declared.rows.RowWrite.TheVariants.{Insert, Kill, Floor}
 use Rattle.agg_model.specs.declared.entity.Entity.{Entity}
-use Rattle.agg_model.specs.declared.entity.Entity.TheVariants.{Accounts, Storage, Code, LogAddrs, LogTopics, TracesFrom, TracesTo}
+use Rattle.agg_model.specs.declared.entity.Entity.TheVariants.{Accounts, Storage, Code, LogAddrs}
+use Rattle.agg_model.specs.declared.entity.Entity.TheVariants.{LogTopics, TracesFrom, TracesTo}
 use Rattle.agg_model.specs.declared.change.Act.{Act}
 use Rattle.agg_model.specs.declared.change.Act.TheVariants.{Mark}
 use Rattle.agg_model.specs.Act.{act_number, act_value, act_in}

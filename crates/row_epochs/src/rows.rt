@@ -95,10 +95,14 @@ impl<K: Keeper> Rows<K> {
     pub fn write(&mut self, alloc: Global, batch: &Batch) -> Result<(), RowsError>
         requires apart { HasNoRepeats batch.now }
         requires new { ForSome self.old.told (λ h. All (λ c. IsNew c (changes_seen self.old.epoch h.rows)) batch.now) }
-        ensures ok { IfSome self.old.told (λ h. OnOk result (self.new.told ≡ Some (applied (writes_of (self.old.epoch + 1) batch.now) h))) }
+        ensures ok { IfSome self.old.told
+            (λ h. OnOk result (self.new.told ≡ Some (applied (writes_of (self.old.epoch + 1) batch.now) h))) }
         // The new epoch sees the changes of the one before and those of the batch, and earlier ones see what they saw.
-        ensures changes { IfSome self.old.told (λ h. OnOk result (IsSomeAnd self.new.told (λ k. changes_seen (self.old.epoch + 1) k.rows ≡ arranged_from (changes_seen self.old.epoch h.rows) batch.now))) }
-        ensures earlier { IfSome self.old.told (λ h. OnOk result (IsSomeAnd self.new.told (λ k. SameUpTo self.old.epoch h.rows k.rows))) }
+        ensures changes { IfSome self.old.told (λ h. OnOk result (IsSomeAnd self.new.told
+            (λ k. changes_seen (self.old.epoch + 1) k.rows
+            ≡ arranged_from (changes_seen self.old.epoch h.rows) batch.now))) }
+        ensures earlier { IfSome self.old.told
+            (λ h. OnOk result (IsSomeAnd self.new.told (λ k. SameUpTo self.old.epoch h.rows k.rows))) }
         ensures silent { IfNone self.old.told (self.new.told ≡ None) }
         ensures epoch { OnOk result (self.new.epoch ≡ self.old.epoch + 1) }
         ensures err { OnErr result (self.new ≡ record self.old { faults = self.new.faults }) }
@@ -117,8 +121,10 @@ impl<K: Keeper> Rows<K> {
     /// earlier epochs see stays until a purge.
     pub fn kill(&mut self, alloc: Global, ids: &[RowId], floor: u64) -> Result<(), RowsError>
         requires alive { ForSome self.old.told (λ h. All (IsAlive h.rows) ids.now) }
-        ensures ok { IfSome self.old.told (λ h. OnOk result (self.new.told ≡ Some (applied (kills_of (self.old.epoch + 1) floor ids.now) h))) }
-        ensures earlier { IfSome self.old.told (λ h. OnOk result (IsSomeAnd self.new.told (λ k. SameUpTo self.old.epoch h.rows k.rows))) }
+        ensures ok { IfSome self.old.told
+            (λ h. OnOk result (self.new.told ≡ Some (applied (kills_of (self.old.epoch + 1) floor ids.now) h))) }
+        ensures earlier { IfSome self.old.told
+            (λ h. OnOk result (IsSomeAnd self.new.told (λ k. SameUpTo self.old.epoch h.rows k.rows))) }
         ensures silent { IfNone self.old.told (self.new.told ≡ None) }
         ensures epoch { OnOk result (self.new.epoch ≡ self.old.epoch + 1) }
         ensures err { OnErr result (self.new ≡ record self.old { faults = self.new.faults }) }
@@ -144,7 +150,8 @@ impl<K: Keeper> Rows<K> {
         from: u64,
         before: u64,
     ) -> Result<Option<Change>, RowsError>
-        ensures change { IfSome self.old.told (λ h. IfOk result (λ change. change ≡ hot_change (changes_seen epoch h.rows) entity key.now from before)) }
+        ensures change { IfSome self.old.told
+            (λ h. IfOk result (λ change. change ≡ hot_change (changes_seen epoch h.rows) entity key.now from before)) }
         ensures same { self.new ≡ record self.old { faults = self.new.faults } }
         ensures unworn { IsUnworn result }
         ensures cause { HasCause RowsError.Keeper self.old.faults self.new.faults result }
@@ -160,7 +167,8 @@ impl<K: Keeper> Rows<K> {
         from: &RowId,
         limit: usize,
     ) -> Result<Rowlist, RowsError>
-        ensures rows { IfSome self.old.told (λ h. IfOk result (λ rows. rows ≡ take limit (seen epoch (rows_from from.now h.rows)))) }
+        ensures rows { IfSome self.old.told
+            (λ h. IfOk result (λ rows. rows ≡ take limit (seen epoch (rows_from from.now h.rows)))) }
         ensures same { self.new ≡ record self.old { faults = self.new.faults } }
         ensures unworn { IsUnworn result }
         ensures cause { HasCause RowsError.Keeper self.old.faults self.new.faults result }
@@ -201,9 +209,11 @@ impl<K: Keeper> Rows<K> {
     /// Removes exactly the rows that were killed at `oldest` or before, in one write of the keeper, and
     /// answers how many.
     pub fn purge(&mut self, alloc: Global, oldest: u64) -> Result<u64, RowsError>
-        ensures ok { IfSome self.old.told (λ h. OnOk result (self.new.told ≡ Some (record h { rows = without_dead oldest h.rows }))) }
+        ensures ok { IfSome self.old.told
+            (λ h. OnOk result (self.new.told ≡ Some (record h { rows = without_dead oldest h.rows }))) }
         ensures count { IfSome self.old.told (λ h. IfOk result (λ count. count ≡ length (dead oldest h.rows))) }
-        ensures later { IfSome self.old.told (λ h. OnOk result (IsSomeAnd self.new.told (λ k. SameFrom oldest h.rows k.rows))) }
+        ensures later { IfSome self.old.told
+            (λ h. OnOk result (IsSomeAnd self.new.told (λ k. SameFrom oldest h.rows k.rows))) }
         ensures silent { IfNone self.old.told (self.new.told ≡ None) }
         ensures epoch { self.new.epoch ≡ self.old.epoch }
         ensures err { OnErr result (self.new ≡ record self.old { faults = self.new.faults }) }

@@ -40,7 +40,8 @@ pub fn last_seen<K: Keeper>(
     before: u64,
 ) -> Result<Option<Change>, RowsError>
     requires { ForSome (K.held keeper.old) (λ h. (last : ℕ) × AreVersions last h) }
-    ensures change { IfSome (K.held keeper.old) (λ h. IfOk result (λ change. change ≡ hot_change (changes_seen epoch h.rows) entity key.now from before)) }
+    ensures change { IfSome (K.held keeper.old)
+        (λ h. IfOk result (λ change. change ≡ hot_change (changes_seen epoch h.rows) entity key.now from before)) }
     ensures held { K.held keeper.new ≡ K.held keeper.old }
     ensures unworn { IsUnworn result }
     ensures cause { HasCause RowsError.Keeper (K.faults keeper.old) (K.faults keeper.new) result }
@@ -96,7 +97,8 @@ pub fn some_seen<K: Keeper>(
     limit: usize,
 ) -> Result<Rowlist, RowsError>
     requires { ForSome (K.held keeper.old) (λ h. IsTrue (ascends h.rows)) }
-    ensures rows { IfSome (K.held keeper.old) (λ h. IfOk result (λ rows. rows ≡ take limit (seen epoch (rows_from from.now h.rows)))) }
+    ensures rows { IfSome (K.held keeper.old)
+        (λ h. IfOk result (λ rows. rows ≡ take limit (seen epoch (rows_from from.now h.rows)))) }
     ensures held { K.held keeper.new ≡ K.held keeper.old }
     ensures unworn { IsUnworn result }
     ensures cause { HasCause RowsError.Keeper (K.faults keeper.old) (K.faults keeper.new) result }

@@ -1,0 +1,97 @@
+//! Calls over versioned rows as a plain ordered map and filters answer them, for a comparison in one run:
+//! `rows PART COUNT MORE`.
+
+use std::collections::BTreeMap;
+use std::ops::Bound::{Excluded, Included, Unbounded};
+
+const PAGE: usize = 100;
+const PRUNED: usize = 1000;
+
+type Map = BTreeMap<(u8, Vec<u8>, u64, u64), (u64, u8, Vec<u8>)>;
+
+fn key_of(number: u64) -> Vec<u8> {
+    number.wrapping_mul(0x9e37_79b9_7f4a_7c15).to_be_bytes().to_vec()
+}
+
+fn next_random(random: u64) -> u64 {
+    random.wrapping_mul(6364136223846793005).wrapping_add(1442695040888963407)
+}
+
+fn filled(count: u64) -> Map {
+    (0..count).map(|tx| ((0, key_of(tx), tx, tx + 1), (0, 0, tx.to_be_bytes().to_vec()))).collect()
+}
+
+fn is_seen(epoch: u64, born: u64, killed: u64) -> bool {
+    born <= epoch && (killed == 0 || epoch < killed)
+}
+
+fn steps(map: &Map, epoch: u64, count: u64, steps: u64) -> u64 {
+    let size = count / steps.max(1) + 1;
+    let mut sum = 0u64;
+    for step in 0..steps {
+        let numbers = step * size..step * size + size;
+        let found: Vec<_> = map
+            .iter()
+            .filter(|(id, row)| is_seen(epoch, id.3, row.0) && numbers.contains(&id.2))
+            .map(|(id, row)| (id.clone(), row.clone()))
+            .collect();
+        sum += found.iter().map(|(id, _)| id.2).sum::<u64>();
+    }
+    sum
+}
+
+fn main() {
+    let words: Vec<String> = std::env::args().skip(1).collect();
+    let (count, more): (u64, u64) = (words[1].parse().expect("a count"), words[2].parse().expect("a number"));
+    let mut map = filled(count);
+    let epoch = count;
+    let (mut random, mut sum) = (1u64, 0u64);
+    match words[0].as_str() {
+        "filled" => sum = epoch,
+        "steps" => sum = steps(&map, epoch, count, more),
+        "low" => {
+            for _ in 0..more {
+                sum += map.iter().filter(|(id, row)| row.0 == 0 && id.2 < count).count() as u64;
+            }
+        }
+        "prunes" => {
+            let low: Vec<_> = map.keys().filter(|id| id.2 < count / 2).take(PRUNED * more as usize).cloned().collect();
+            for id in low {
+                sum += map.remove(&id).is_some() as u64;
+            }
+        }
+        part => {
+            for _ in 0..more {
+                random = next_random(random);
+                let key = key_of((random >> 33) % count);
+                let low = (0, key.clone(), 0, 0);
+                match part {
+                    "last" => {
+                        let high = (0, key, u64::MAX, 0);
+                        let last = map.range(low..high).rev().find(|(id, row)| is_seen(epoch, id.3, row.0));
+                        sum += last.map_or(0, |(_, row)| row.2.clone()[7] as u64);
+                    }
+                    "times" => {
+                        let high = (0, key, u64::MAX, 0);
+                        let found = map.range(low..high).filter(|(id, row)| is_seen(epoch, id.3, row.0));
+                        sum += found.take(PAGE).map(|(id, _)| id.2).collect::<Vec<_>>().iter().sum::<u64>();
+                    }
+                    "keys" => {
+                        let found = map.range((Included(low), Unbounded)).filter(|(id, row)| is_seen(epoch, id.3, row.0));
+                        let mut keys: Vec<Vec<u8>> = found.take(PAGE).map(|(id, _)| id.1.clone()).collect();
+                        keys.dedup();
+                        sum += keys.iter().map(|key| key[0] as u64).sum::<u64>();
+                    }
+                    "views" => {
+                        let high = Excluded((1, vec![], 0, 0));
+                        let found = map.range((Included(low), high)).filter(|(id, row)| is_seen(epoch, id.3, row.0));
+                        let rows: Vec<_> = found.take(PAGE).map(|(id, row)| (id.clone(), row.clone())).collect();
+                        sum += rows.iter().map(|(id, _)| id.2).sum::<u64>();
+                    }
+                    _ => panic!("no such part"),
+                }
+            }
+        }
+    }
+    println!("{sum}");
+}
