@@ -9,3 +9,6 @@ pub mod Keyed
 pub mod StrayNames
 pub mod Drops
 pub mod Seen
+pub mod Added
+pub mod Notes
+pub mod CutTests

@@ -88,13 +88,13 @@ filtered-order id_of p xs ys ids same up is =
 -- ---- what the added groups replace
 
 module _ {G : Type 0} (id_of : G → GroupId) (S A : List G) where
-  any-made : (p : GroupId → Bool) → list_any p (map id_of (replaced_by id_of S A)) ≡ (list_any p (map id_of A) || list_any (λ x. p (id_of x)) (filter (λ x. not (is_covered (map id_of A) (id_of x))) S))
+  pub any-made : (p : GroupId → Bool) → list_any p (map id_of (replaced_by id_of S A)) ≡ (list_any p (map id_of A) || list_any (λ x. p (id_of x)) (filter (λ x. not (is_covered (map id_of A) (id_of x))) S))
   any-made p =
       any-map p id_of (replaced_by id_of S A)
       ∙ any-all_placed id_of (λ x. p (id_of x)) A (filter (λ x. not (is_covered (map id_of A) (id_of x))) S)
       ∙ ap (λ b. b || list_any (λ x. p (id_of x)) (filter (λ x. not (is_covered (map id_of A) (id_of x))) S)) (sym (any-map p id_of A))
 
-  kept-is : (id : GroupId) → list_any (λ x. same_id (id_of x) id) (filter (λ x. not (is_covered (map id_of A) (id_of x))) S) ≡ (contains_id (map id_of S) id && not (is_covered (map id_of A) id))
+  pub kept-is : (id : GroupId) → list_any (λ x. same_id (id_of x) id) (filter (λ x. not (is_covered (map id_of A) (id_of x))) S) ≡ (contains_id (map id_of S) id && not (is_covered (map id_of A) id))
   kept-is id =
       any-filter (λ x. same_id (id_of x) id) (λ x. not (is_covered (map id_of A) (id_of x))) S
       ∙ any-same (λ x. not (is_covered (map id_of A) (id_of x)) && same_id (id_of x) id) (λ x. same_id (id_of x) id && not (is_covered (map id_of A) id)) (λ x. by x (same_id (id_of x) id) refl) S

@@ -144,9 +144,12 @@ pub record Unpins (before held : List HeldGroup) (ids rest : List GroupId) : Typ
 pub record Adds (before : List GroupId) (initial held : List HeldGroup) (all rest : List GroupId) : Type 0 where
   pub rises : Ascends 0 (places rest)
   pub order : Ascends 0 (held_places held)
-  pub fresh : (id : GroupId) → contains_id (added_ids before rest) id ≡ true → contains_id (held_ids held) id ≡ false
+  pub fresh : (id : GroupId) → contains_id (added_ids before rest) id ≡ true
+      → contains_id (held_ids held) id ≡ false
   pub counts : (n : FileName) → count_of held n ≡ count_of initial n
-  pub shown : (id : GroupId) → (is_shown held id || contains_id (added_ids before rest) id) ≡ (is_shown initial id || contains_id (added_ids before all) id)
+  pub shown : (id : GroupId) →
+      (is_shown held id || contains_id (added_ids before rest) id)
+      ≡ (is_shown initial id || contains_id (added_ids before all) id)
   pub hidden : (id : GroupId) → is_hidden held id ≡ is_hidden initial id
   pub names : retired_names held ≡ retired_names initial
   pub left : list_all has_kind_left held ≡ list_all has_kind_left initial

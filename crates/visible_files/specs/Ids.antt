@@ -1,10 +1,11 @@
 -- Groups by entity and range, their order, and the cuts that a list of them makes.
-use Rattle.std.specs.Prelude.{◌≡◌, ℕ, suc, ◌+◌, ◌*◌, ◌^◌, ◌≤◌, ◌<◌, slice_index_or, Bool, true, false, not, ◌==◌, ◌&&◌, nat_lt, nat_le, List, [], ◌∷◌, map, filter, length, if◌then◌else◌}
+use Rattle.std.specs.Prelude.{◌≡◌, ◌⊎◌, ℕ, suc, ◌+◌, ◌*◌, ◌^◌, ◌≤◌, ◌<◌, slice_index_or, Bool, true, false, not, ◌==◌, ◌&&◌, nat_lt, nat_le, List, [], ◌∷◌, map, filter, length, if◌then◌else◌}
 use Rattle.std.specs.List.{list_any}
 use Rattle.agg_model.specs.Entity.{entity_number}
 use Rattle.agg_model.specs.declared.entity.Entity.{Entity}
+use Rattle.agg_model.specs.declared.entity.Entity.TheVariants.{Accounts, Storage, Code, LogAddrs, LogTopics, TracesFrom, TracesTo}
 use Rattle.agg_model.specs.declared.entity.Range.{Range}
-use Rattle.merge_ranges.specs.Cut.{IsCut, end_of}
+use Rattle.merge_ranges.specs.Cut.{is_aligned, IsCut, end_of, IsUnionIn}
 use Rattle.visible_files.specs.declared.ids.GroupId.{GroupId}
 
 abbrev pub same_entity : Entity → Entity → Bool
@@ -49,10 +50,28 @@ pub record AreCuts (ids : List GroupId) (end : ℕ) : Type 0 where
   pub cut : (e : Entity) → IsCut (ranges_of e ids)
   pub ends : (e : Entity) → end_of (ranges_of e ids) ≡ end
 
+-- adjacent aligned ranges from a step on, of which the last ends at `end`
+abbrev pub is_cut_to : ℕ → List Range → ℕ → Bool
+is_cut_to a [] end = a == end
+is_cut_to a (r ∷ rs) end = (r.from == a) && is_aligned r && is_cut_to r.to rs end
+
+-- the test of `AreCuts`
+abbrev pub are_cuts : List GroupId → ℕ → Bool
+are_cuts ids end =
+    is_cut_to 0 (ranges_of Accounts ids) end && is_cut_to 0 (ranges_of Storage ids) end
+    && is_cut_to 0 (ranges_of Code ids) end
+    && is_cut_to 0 (ranges_of LogAddrs ids) end && is_cut_to 0 (ranges_of LogTopics ids) end
+    && is_cut_to 0 (ranges_of TracesFrom ids) end && is_cut_to 0 (ranges_of TracesTo ids) end
+
 -- groups in order, of which each entity's are a cut with this end
 pub record IsSet (ids : List GroupId) (end : ℕ) : Type 0 where
   pub order : Ascends 0 (places ids)
   pub cuts : AreCuts ids end
+
+-- it begins where the ranges of its entity end, or is the union of at least two of them
+abbrev pub ExtendsOrMerges : List GroupId → GroupId → Type 0
+ExtendsOrMerges ids id =
+    (id.range.from ≡ end_of (ranges_of id.entity ids)) ⊎ IsUnionIn (ranges_of id.entity ids) id.range
 
 -- the steps of a are all those of b and perhaps more, of the same entity
 unfoldable pub covers : GroupId → GroupId → Bool
@@ -98,4 +117,5 @@ id_with entity range g = record { entity = entity g; range = range g }
 
 -- what the next set lacks of the one before is a part of one of its groups
 abbrev pub Replaces : List GroupId → List GroupId → Type 0
-Replaces before after = (id : GroupId) → contains_id before id ≡ true → contains_id after id ≡ false → is_inside after id ≡ true
+Replaces before after =
+    (id : GroupId) → contains_id before id ≡ true → contains_id after id ≡ false → is_inside after id ≡ true

@@ -165,7 +165,8 @@ fn place_for(held: &[HeldGroup], id: GroupId) -> usize
     requires order { Ascends 0 (held_places held.now) }
     requires absent { contains_id (held_ids held.now) id ≡ false }
     ensures bound { IsLowerBound (λ h. place h.id) held.now (place id) result }
-    ensures apart { (d : HeldGroup) → result < length held.now → place id < place (slice_index_or held.now result d).id }
+    ensures apart { (d : HeldGroup) → result < length held.now →
+        place id < place (slice_index_or held.now result d).id }
 {
     let at = place_of(held, id);
     if at >= held.len() {

@@ -1,10 +1,13 @@
-ghost use Rattle.std.specs.Prelude.{◌≡◌, nat_lt, false, IfOk, map};
+ghost use Rattle.std.specs.Prelude.{◌≡◌, nat_lt, false, IfOk};
 ghost use Rattle.agg_model.specs.declared.entity.Entity.TheVariants.{Accounts};
 ghost use Rattle.merge_ranges.specs.Cut.{end_of};
 ghost use Rattle.visible_files.specs.Ids.{same_id, place, places, Rises, Ascends, IsLowerBound, contains_id, is_covered, covers, ranges_of, same_entity};
 ghost use Rattle.visible_files.specs.declared.ids.GroupId.{GroupId};
 
 use agg_model::{Entity, Range};
+use agg_outside::Memory;
+use merge_ranges::Cut;
+use std::alloc::Global;
 
 /// What tells groups apart: the entity and the steps.
 #[derive(Clone, Copy, Debug, PartialEq, Eq)]
@@ -80,6 +83,25 @@ pub(crate) fn is_within(ids: &[GroupId], id: GroupId) -> bool
         }
     }
     false
+}
+
+pub(crate) fn is_of(id: GroupId, entity: Entity) -> bool
+    ensures { result ≡ same_entity id.entity entity }
+{
+    id.entity.number() == entity.number()
+}
+
+/// The ranges of the entity, in order.
+pub(crate) fn cut_of(alloc: Global, ids: &[GroupId], entity: Entity) -> Result<Cut, Memory>
+    ensures { IfOk result (λ cut. cut ≡ ranges_of entity ids.now) }
+{
+    let mut cut = Cut::new(alloc);
+    for id in ids {
+        if is_of(*id, entity) {
+            cut.push(id.range)?;
+        }
+    }
+    Ok(cut)
 }
 
 fn is_of_accounts(id: GroupId) -> bool

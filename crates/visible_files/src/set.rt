@@ -1,12 +1,13 @@
 ghost use Rattle.std.specs.Prelude.{◌≡◌, ℕ, [], ◌∷◌, ◌++◌, map, filter, not, IfOk, OnOk};
 ghost use Rattle.std.specs.Arc.{arc_value};
-ghost use Rattle.agg_model.specs.declared.entity.Entity.TheVariants.{Accounts};
-ghost use Rattle.visible_files.specs.Ids.{id_with, places, Rises, placed, all_placed, in_order, replaced_by, is_covered, AreCuts, IsSet, Replaces};
+ghost use Rattle.visible_files.specs.Ids.{id_with, places, Rises, placed, all_placed, in_order, replaced_by, is_covered, AreCuts, IsSet, Replaces, ranges_of};
+ghost use Rattle.merge_ranges.specs.Cut.{IsCut};
 ghost use Rattle.visible_files.specs.Sets.{IsFileSet};
 
-use crate::ids::{GroupId, end_of_ids, is_within, place_among};
+use crate::ids::{GroupId, cut_of, end_of_ids, is_within, place_among};
+use agg_model::Entity;
 use agg_outside::Memory;
-use merge_ranges::Group;
+use merge_ranges::{Cut, Group};
 use std::alloc::Global;
 use std::marker::Model;
 use std::sync::Arc;
@@ -29,7 +30,8 @@ impl<G: Group> Model for FileSet<G> {
 
     ghost view = { λ s. record { groups = map (λ g. arc_value g) s.groups.items; ids = s.ids.items; end = s.end } };
 
-    ghost invariant = { λ s. IsFileSet G.entity_of G.range_of (map (λ g. arc_value g) s.groups.items) s.ids.items s.end };
+    ghost invariant = { λ s. IsFileSet G.entity_of G.range_of
+        (map (λ g. arc_value g) s.groups.items) s.ids.items s.end };
 }
 
 impl<G: Group> FileSet<G> {
@@ -46,6 +48,14 @@ impl<G: Group> FileSet<G> {
         ensures { result ≡ self.now.end }
     {
         self.end
+    }
+
+    /// The ranges of the entity's groups, in order.
+    pub fn cut(&self, alloc: Global, entity: Entity) -> Result<Cut, Memory>
+        ensures ranges { IfOk result (λ cut. cut ≡ ranges_of entity self.now.ids) }
+        ensures cut { IfOk result (λ cut. IsCut cut) }
+    {
+        cut_of(alloc, self.ids(), entity)
     }
 
     pub(crate) fn ids(&self) -> &[GroupId]
@@ -81,7 +91,7 @@ fn put<G: Group + Drop>(
 }
 
 /// Puts each of the groups to its place.
-fn put_all<G: Group + Drop>(
+pub(crate) fn put_all<G: Group + Drop>(
     groups: &mut Vec<Arc<G>>,
     ids: &mut Vec<GroupId>,
     added: Vec<Arc<G>>,
@@ -89,7 +99,8 @@ fn put_all<G: Group + Drop>(
     requires same { ids.old.items ≡ map (id_with G.entity_of G.range_of) (map (λ g. arc_value g) groups.old.items) }
     requires order { Rises 0 (places ids.old.items) }
     ensures groups { OnOk result (map (λ g. arc_value g) groups.new.items
-        ≡ all_placed (id_with G.entity_of G.range_of) (map (λ g. arc_value g) added.items) (map (λ g. arc_value g) groups.old.items)) }
+        ≡ all_placed (id_with G.entity_of G.range_of) (map (λ g. arc_value g) added.items)
+        (map (λ g. arc_value g) groups.old.items)) }
     ensures same { OnOk result (ids.new.items
         ≡ map (id_with G.entity_of G.range_of) (map (λ g. arc_value g) groups.new.items)) }
     ensures order { OnOk result (Rises 0 (places ids.new.items)) }
@@ -100,9 +111,24 @@ fn put_all<G: Group + Drop>(
     Ok(())
 }
 
+/// Each of the groups once more.
+pub(crate) fn copies<G: Group + Drop>(
+    alloc: Global,
+    groups: &[Arc<G>],
+) -> Result<Vec<Arc<G>>, Memory>
+    ensures { IfOk result (λ copies. map (λ g. arc_value g) copies.items ≡ map (λ g. arc_value g) groups.now) }
+{
+    let mut copies = Vec::new(alloc);
+    for group in groups {
+        copies.push(Arc::try_clone(group)?)?;
+    }
+    Ok(copies)
+}
+
 /// The ids of the groups.
 pub(crate) fn ids_of<G: Group>(alloc: Global, groups: &[Arc<G>]) -> Result<Vec<GroupId>, Memory>
-    ensures { IfOk result (λ ids. ids.items ≡ map (id_with G.entity_of G.range_of) (map (λ g. arc_value g) groups.now)) }
+    ensures { IfOk result (λ ids. ids.items
+        ≡ map (id_with G.entity_of G.range_of) (map (λ g. arc_value g) groups.now)) }
 {
     let mut ids = Vec::new(alloc);
     for group in groups {
@@ -140,7 +166,7 @@ fn keep_uncovered<G: Group + Drop>(
 }
 
 /// The groups of the set that none of these covers.
-fn uncovered<G: Group + Drop>(
+pub(crate) fn uncovered<G: Group + Drop>(
     alloc: Global,
     set: &FileSet<G>,
     added: &[GroupId],
@@ -148,7 +174,8 @@ fn uncovered<G: Group + Drop>(
     ensures groups { IfOk result (λ groups. map (λ g. arc_value g) groups.items
         ≡ filter (λ g. not (is_covered added.now (id_with G.entity_of G.range_of g))) set.now.groups) }
     ensures same { IfOk result (λ groups. set.now.ids ≡ map (id_with G.entity_of G.range_of) set.now.groups) }
-    ensures order { IfOk result (λ groups. Rises 0 (places (map (id_with G.entity_of G.range_of) (map (λ g. arc_value g) groups.items)))) }
+    ensures order { IfOk result (λ groups.
+        Rises 0 (places (map (id_with G.entity_of G.range_of) (map (λ g. arc_value g) groups.items)))) }
 {
     let mut groups = Vec::new(alloc);
     for group in set.groups() {
@@ -181,7 +208,8 @@ pub(crate) fn arranged<G: Group + Drop>(
     ensures groups { IfOk result (λ made. made.groups
         ≡ in_order (id_with G.entity_of G.range_of) (map (λ g. arc_value g) set.items)) }
     ensures set { IfOk result (λ made. IsFileSet G.entity_of G.range_of made.groups made.ids made.end) }
-    ensures end { IfOk result (λ made. (end : ℕ) → AreCuts (map (id_with G.entity_of G.range_of) made.groups) end → made.end ≡ end) }
+    ensures end { IfOk result (λ made. (end : ℕ) →
+        AreCuts (map (id_with G.entity_of G.range_of) made.groups) end → made.end ≡ end) }
 {
     let mut groups = Vec::new(alloc);
     let mut ids = Vec::new(alloc);
@@ -201,7 +229,8 @@ pub(crate) fn replacing<G: Group + Drop>(
         ≡ replaced_by (id_with G.entity_of G.range_of) set.now.groups (map (λ g. arc_value g) added.items)) }
     ensures replaces { IfOk result (λ made. Replaces set.now.ids made.ids) }
     ensures set { IfOk result (λ made. IsFileSet G.entity_of G.range_of made.groups made.ids made.end) }
-    ensures end { IfOk result (λ made. (end : ℕ) → AreCuts (map (id_with G.entity_of G.range_of) made.groups) end → made.end ≡ end) }
+    ensures end { IfOk result (λ made. (end : ℕ) →
+        AreCuts (map (id_with G.entity_of G.range_of) made.groups) end → made.end ≡ end) }
 {
     let covering = ids_of(alloc, &added)?;
     let mut groups = uncovered(alloc, set, &covering)?;

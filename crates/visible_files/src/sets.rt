@@ -37,14 +37,14 @@ impl<G: Group> Model for FileSets<G> {
 }
 
 impl<G: Group + Drop> FileSets<G> {
-    ghost use Rattle.std.specs.Prelude.{◌≡◌, ◌≤◌, ◌<◌, ◌+◌, ◌*◌, ◌^◌, ◌||◌, ◌&&◌, ℕ, IfOk, OnErr, OnOk, IfSome, IsTrue, map, not, true, false, length, [], Some};
+    ghost use Rattle.std.specs.Prelude.{◌≡◌, ◌≤◌, ◌<◌, ◌+◌, ◌*◌, ◌^◌, ◌||◌, ◌&&◌, ℕ, IfOk, OnErr, OnOk, IfSome, IfNone, IsTrue, All, map, filter, not, true, false, length, [], Some};
     ghost use Rattle.std.specs.Arc.{arc_value};
     ghost use Rattle.merge_ranges.specs.declared.name.FileName.{FileName};
     ghost use Rattle.merge_ranges.specs.declared.name.DiskName.{DiskName};
-    ghost use Rattle.visible_files.specs.Ids.{AreCuts, id_with, in_order, replaced_by, added_ids, gone_ids};
+    ghost use Rattle.visible_files.specs.Ids.{AreCuts, ExtendsOrMerges, id_with, in_order, replaced_by, is_covered, added_ids, gone_ids};
     ghost use Rattle.visible_files.specs.Held.{count_of, named_once, is_named, is_retired, retired_names, unpinned};
     ghost use Rattle.visible_files.specs.Strays.{is_stray, same_disk_name};
-    ghost use Rattle.visible_files.specs.Sets.{IsFileSet, first_to_drop, is_loose};
+    ghost use Rattle.visible_files.specs.Sets.{IsFileSet, first_to_drop, is_loose, is_noted};
 
     /// The current set.
     pub fn current(&self) -> &FileSet<G>
@@ -67,6 +67,7 @@ impl<G: Group + Drop> FileSets<G> {
             count_of self.new.held n ≡ count_of self.old.held n + named_once self.old.current.ids n) }
         ensures current { self.new.current ≡ self.old.current }
         ensures others { unpinned self.new.held ≡ unpinned self.old.held }
+        ensures retired { retired_names self.new.held ≡ retired_names self.old.held }
         ensures strays { self.new.strays ≡ self.old.strays }
         ensures spare { self.old.spare ≤ self.new.spare }
         ensures err { OnErr result (self.new.held ≡ self.old.held) }
@@ -86,6 +87,7 @@ impl<G: Group + Drop> FileSets<G> {
             count_of self.new.held n + named_once (arc_value set).ids n ≡ count_of self.old.held n }
         ensures current { self.new.current ≡ self.old.current }
         ensures others { unpinned self.new.held ≡ unpinned self.old.held }
+        ensures retired { retired_names self.new.held ≡ retired_names self.old.held }
         ensures strays { self.new.strays ≡ self.old.strays }
         ensures spare { self.old.spare ≤ self.new.spare }
     {
@@ -133,14 +135,28 @@ impl<G: Group + Drop> FileSets<G> {
 
     /// The set in which the added groups have replaced those of the current set that they cover.
     pub fn prepare(&self, alloc: Global, added: Vec<Arc<G>>) -> Result<Prepared<G>, Memory>
-        requires { (end : ℕ) × AreCuts (map (id_with G.entity_of G.range_of)
-            (replaced_by (id_with G.entity_of G.range_of) self.now.current.groups (map (λ g. arc_value g) added.items))) end }
+        requires each { All (ExtendsOrMerges self.now.current.ids)
+            (map (id_with G.entity_of G.range_of) (map (λ g. arc_value g) added.items)) }
+        requires cuts { (end : ℕ) × AreCuts (map (id_with G.entity_of G.range_of)
+            (replaced_by (id_with G.entity_of G.range_of) self.now.current.groups
+            (map (λ g. arc_value g) added.items))) end }
         ensures before { IfOk result (λ next. next.before ≡ self.now.current.groups) }
         ensures groups { IfOk result (λ next. next.set.groups
-            ≡ replaced_by (id_with G.entity_of G.range_of) self.now.current.groups (map (λ g. arc_value g) added.items)) }
+            ≡ replaced_by (id_with G.entity_of G.range_of) self.now.current.groups
+            (map (λ g. arc_value g) added.items)) }
         ensures set { IfOk result (λ next. IsFileSet G.entity_of G.range_of next.set.groups next.set.ids next.set.end) }
-        ensures end { IfOk result (λ next. (end : ℕ) → AreCuts (map (id_with G.entity_of G.range_of) next.set.groups) end →
+        ensures end { IfOk result (λ next. (end : ℕ) →
+            AreCuts (map (id_with G.entity_of G.range_of) next.set.groups) end →
             next.set.end ≡ end) }
+        // None of the added groups was there.
+        ensures added { IfOk result (λ next. added_ids self.now.current.ids next.set.ids
+            ≡ map (id_with G.entity_of G.range_of)
+            (in_order (id_with G.entity_of G.range_of) (map (λ g. arc_value g) added.items))) }
+        ensures added_count { IfOk result (λ next.
+            length (added_ids self.now.current.ids next.set.ids) ≡ length added.items) }
+        ensures replaced { IfOk result (λ next. gone_ids self.now.current.ids next.set.ids
+            ≡ filter (is_covered (map (id_with G.entity_of G.range_of) (map (λ g. arc_value g) added.items)))
+            self.now.current.ids) }
     {
         let set = replacing(alloc, &self.current, added)?;
         let set = Arc::new(alloc, set)?;
@@ -170,7 +186,8 @@ impl<G: Group + Drop> FileSets<G> {
     /// Notes a name on the disk that isn't visible; takes no memory.
     pub fn stray(&mut self, name: DiskName)
         requires { 1 ≤ self.old.spare }
-        ensures noted { (d : DiskName) → is_stray self.new.strays d ≡ (is_stray self.old.strays d || same_disk_name name d) }
+        ensures noted { (d : DiskName) → is_stray self.new.strays d
+            ≡ (is_stray self.old.strays d || same_disk_name name d) }
         ensures current { self.new.current ≡ self.old.current }
         ensures held { self.new.held ≡ self.old.held }
         ensures spare { self.old.spare ≤ self.new.spare + 1 }
@@ -182,7 +199,10 @@ impl<G: Group + Drop> FileSets<G> {
     /// nor pinned.
     pub fn retired(&self) -> Option<DiskName>
         ensures first { result ≡ first_to_drop self.now.current.ids self.now.held self.now.strays }
+        ensures noted { IfSome result (λ d. IsTrue (is_noted self.now.held self.now.strays d)) }
         ensures unseen { IfSome result (λ d. IsTrue (is_loose self.now.current.ids self.now.held d)) }
+        ensures none { IfNone result ((d : DiskName) → is_noted self.now.held self.now.strays d ≡ true →
+            is_loose self.now.current.ids self.now.held d ≡ false) }
     {
         match first_unpinned_name(&self.held) {
             Some(name) => Some(DiskName { name, temp: false }),
@@ -193,9 +213,12 @@ impl<G: Group + Drop> FileSets<G> {
     /// Takes every note of the name away.
     pub fn drop_file(&mut self, name: DiskName)
         requires { first_to_drop self.old.current.ids self.old.held self.old.strays ≡ Some name }
+        ensures noted { (d : DiskName) → is_noted self.new.held self.new.strays d
+            ≡ (is_noted self.old.held self.old.strays d && not (same_disk_name name d)) }
         ensures retired { (n : FileName) → is_retired self.new.held n
             ≡ (is_retired self.old.held n && not (same_disk_name name (record { name = n; temp = false }))) }
-        ensures strays { (d : DiskName) → is_stray self.new.strays d ≡ (is_stray self.old.strays d && not (same_disk_name name d)) }
+        ensures strays { (d : DiskName) → is_stray self.new.strays d
+            ≡ (is_stray self.old.strays d && not (same_disk_name name d)) }
         ensures counts { (n : FileName) → count_of self.new.held n ≡ count_of self.old.held n }
         ensures current { self.new.current ≡ self.old.current }
         ensures spare { self.old.spare ≤ self.new.spare }

@@ -103,7 +103,8 @@ pub(crate) fn note(strays: &mut Vec<DiskName>, name: DiskName)
     requires order { Ascends 0 (disk_places strays.old.items) }
     requires room { vec_len strays.old < vec_capacity strays.old }
     ensures order { Ascends 0 (disk_places strays.new.items) }
-    ensures noted { (d : DiskName) → is_stray strays.new.items d ≡ (is_stray strays.old.items d || same_disk_name name d) }
+    ensures noted { (d : DiskName) → is_stray strays.new.items d
+        ≡ (is_stray strays.old.items d || same_disk_name name d) }
     ensures len { vec_len strays.new ≤ vec_len strays.old + 1 }
     ensures capacity { vec_capacity strays.old ≤ vec_capacity strays.new }
 {
@@ -118,7 +119,8 @@ pub(crate) fn note(strays: &mut Vec<DiskName>, name: DiskName)
 pub(crate) fn forget(strays: &mut Vec<DiskName>, name: DiskName)
     requires { Ascends 0 (disk_places strays.old.items) }
     ensures order { Ascends 0 (disk_places strays.new.items) }
-    ensures others { (d : DiskName) → is_stray strays.new.items d ≡ (is_stray strays.old.items d && not (same_disk_name name d)) }
+    ensures others { (d : DiskName) → is_stray strays.new.items d
+        ≡ (is_stray strays.old.items d && not (same_disk_name name d)) }
     ensures len { vec_len strays.new ≤ vec_len strays.old }
     ensures capacity { vec_capacity strays.new ≡ vec_capacity strays.old }
 {

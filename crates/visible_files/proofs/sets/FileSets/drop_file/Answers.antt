@@ -4,6 +4,7 @@ use Rattle.visible_files.specs.declared.held.HeldGroup.{HeldGroup}
 use Rattle.visible_files.specs.Held.{count_of, is_retired, IsHeld}
 use Rattle.visible_files.specs.Sets.{SetsOf, first_to_drop}
 use Rattle.visible_files.proofs.Drops.{dropped-held, dropped-counts, dropped-note}
+use Rattle.visible_files.proofs.Notes.{dropped-noted}
 use Rattle.visible_files.proofs.sets.FileSets.drop_file.Goals as goal
 
 pub invariant_of-self : goal.invariant_of-self
@@ -23,3 +24,10 @@ returns-clause-retired g c =
 pub returns-clause-counts : goal.returns-clause-counts
 returns-clause-counts g c =
     rw (← c.self.view_is) (λ n. ap (λ l. count_of l n) c.drop_first.ensures.items ∙ dropped-counts n c.self.inside.held.items)
+
+pub returns-clause-noted : goal.returns-clause-noted
+returns-clause-noted g c =
+    let req = subst (λ (v : SetsOf g.row.G.Denot). first_to_drop v.current.ids v.held v.strays ≡ Some c.args.name) (sym c.self.view_is) c.requires in
+    rw (← c.self.view_is)
+    (dropped-noted c.self.inside.held.items c.drop_first.new.held.items c.self.inside.strays.items c.forget.new.strays.items c.args.name
+    (λ n. ap (λ l. is_retired l n) c.drop_first.ensures.items ∙ dropped-note _ c.self.inside.held.items c.self.inside.strays.items c.args.name c.self.invariant.of_held req n) c.forget.ensures.others)
