@@ -1,0 +1,4 @@
+pub mod Faults
+pub mod FileNames
+pub mod IdBytes
+pub mod IdOrder
