@@ -19,7 +19,7 @@ use Rattle.agg_core.specs.Bytes.{file_bytes}
 use Rattle.agg_core.specs.Files.{temporary_of, LeftBy, MayStand, AreOutsideSame, HasFile, HasExactly, KeepsNamed, IsCovered, Covers, SameOutside}
 use Rattle.agg_core.proofs.OneName.{decided, inserted, beside_insert, removed, beside_remove}
 use Rattle.agg_core.proofs.Stays.{file_bytes-stays}
-use Rattle.agg_core.proofs.Written.{IsDue, only_built, is_name-step, from_written}
+use Rattle.agg_core.proofs.Written.{IsDue, only_built, the-name, from_written}
 
 -- ---- names that are apart
 
@@ -65,7 +65,7 @@ covers list steps now small stand e k step built below =
       range = single_step step;
       from = omega arith;
       to = omega arith;
-      name = is_name-step step (omega (arith, below, small));
+      name = the-name step (omega (arith, below, small));
       there = ap is_some (from_written (HasFile list now) steps step below stand);
     }))
 

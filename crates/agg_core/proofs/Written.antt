@@ -18,12 +18,12 @@ use Rattle.merge_ranges.specs.declared.name.FileName.{FileName}
 use Rattle.merge_ranges.specs.Cut.{is_size, is_aligned}
 use Rattle.merge_ranges.specs.Name.{has_kind, is_name}
 use Rattle.merge_ranges.specs.CanonicalNames.{kinds, group_names, entity_names}
-use Rattle.agg_core.specs.Names.{complete_steps, has_files, is_written, is_built, single_step, single_steps, written_over}
+use Rattle.agg_core.specs.Names.{complete_steps, has_files, is_written, is_built, single_step, single_steps, step_name, written_over}
 use Rattle.agg_core.specs.Files.{MayStand}
 
 -- the name of the one file of a step
-abbrev pub step_name : ℕ → FileName
-step_name n = record { entity = Accounts; range = single_step n; kind = Kv }
+abbrev pub the_name : ℕ → FileName
+the_name n = step_name Accounts n
 
 abbrev built : FileName → Bool
 built n = is_built n.entity n.kind
@@ -65,15 +65,15 @@ only_accounts rs =
     ∙ append-nil (filter built (entity_names Accounts rs))
 
 -- one step more has one file more
-pub written-more : (n : ℕ) → written_over (single_steps (suc n)) ≡ written_over (single_steps n) ++ step_name n ∷ []
-written-more n =
+pub the-more : (n : ℕ) → written_over (single_steps (suc n)) ≡ written_over (single_steps n) ++ the_name n ∷ []
+the-more n =
     only_accounts (single_steps n ++ single_step n ∷ [])
     ∙ ap (filter built) (entity_names-push Accounts (single_steps n) (single_step n))
     ∙ filter-append built (entity_names Accounts (single_steps n)) (group_names Accounts (single_step n))
     ∙ (λ i. sym (only_accounts (single_steps n)) i ++ one_written (single_step n) i)
 
-pub written-next : (n : ℕ) → written_over (single_steps (n + 1)) ≡ written_over (single_steps n) ++ step_name n ∷ []
-written-next n = let more : suc n ≡ n + 1 = omega arith in subst (λ m. written_over (single_steps m) ≡ written_over (single_steps n) ++ step_name n ∷ []) more (written-more n)
+pub the-next : (n : ℕ) → written_over (single_steps (n + 1)) ≡ written_over (single_steps n) ++ the_name n ∷ []
+the-next n = let more : suc n ≡ n + 1 = omega arith in subst (λ m. written_over (single_steps m) ≡ written_over (single_steps n) ++ the_name n ∷ []) more (the-more n)
 
 pub written-none : written_over [] ≡ []
 written-none = only_accounts []
@@ -89,13 +89,13 @@ is_aligned-step k small =
     let P = λ (s : ℕ). (is_size s && (k % s == 0) && nat_le (k + 1) 4096) ≡ true in
     subst P (sym (one_step k)) (λ i. true && (eq-eqb (k % 1) 0 (mod-one k) i) && (le-leb (k + 1) 4096 (omega (arith, small)) i))
 
-pub is_name-step : (k : ℕ) → k < 4096 → is_name (step_name k) ≡ true
+pub the-name : (k : ℕ) → k < 4096 → is_name (the_name k) ≡ true
 unfolding is_name has_kind is_domain_entity
-is_name-step k small = ap (λ t. t && true) (is_aligned-step k small)
+the-name k small = ap (λ t. t && true) (is_aligned-step k small)
 
-pub built-step : (k : ℕ) → built (step_name k) ≡ true
+pub the-built : (k : ℕ) → built (the_name k) ≡ true
 unfolding is_built has_files is_written
-built-step k = refl
+the-built k = refl
 
 -- accounts' values are all that is built
 pub only_built : (e : Entity) (k : FileKind) → is_built e k ≡ true → (e ≡ Accounts) × (k ≡ Kv)
@@ -119,32 +119,32 @@ only_built TracesTo k h = cc h
 none : (name : FileName) → Contains [] name → ⊥
 none name h = let inside : h.0 < 0 = h.1 in absurd (omega (arith, inside))
 
-pub written-is : (n : ℕ) (name : FileName) → Contains (written_over (single_steps n)) name → (k : ℕ) × (k < n) × (name ≡ step_name k)
-written-is zero name h = absurd (none name (subst (λ l. Contains l name) written-none h))
-written-is (suc n) name h =
-    elim (Contains-push_cases (written_over (single_steps n)) (step_name n) name (subst (λ l. Contains l name) (written-more n) h)) [
-      | inl before ↦ (let r = written-is n name before in (r.0, omega (arith, r.1), r.2))
+pub the-is : (n : ℕ) (name : FileName) → Contains (written_over (single_steps n)) name → (k : ℕ) × (k < n) × (name ≡ the_name k)
+the-is zero name h = absurd (none name (subst (λ l. Contains l name) written-none h))
+the-is (suc n) name h =
+    elim (Contains-push_cases (written_over (single_steps n)) (the_name n) name (subst (λ l. Contains l name) (the-more n) h)) [
+      | inl before ↦ (let r = the-is n name before in (r.0, omega (arith, r.1), r.2))
       | inr last ↦ (n, omega arith, sym last)
     ]
 
-pub All-written : (P : FileName → Type 0) (n : ℕ) → ((k : ℕ) → k < n → P (step_name k)) → All P (written_over (single_steps n))
+pub All-written : (P : FileName → Type 0) (n : ℕ) → ((k : ℕ) → k < n → P (the_name k)) → All P (written_over (single_steps n))
 All-written P zero h = subst (All P) (sym written-none) (All-nil P)
 All-written P (suc n) h =
-    subst (All P) (sym (written-more n))
-    (All-push P (written_over (single_steps n)) (step_name n) (All-written P n (λ k below. h k (omega (arith, below)))) (h n (omega arith)))
+    subst (All P) (sym (the-more n))
+    (All-push P (written_over (single_steps n)) (the_name n) (All-written P n (λ k below. h k (omega (arith, below)))) (h n (omega arith)))
 
-has-by : (n k : ℕ) (t : Bool) → nat_eq k n ≡ t → (k < n → Contains (written_over (single_steps n)) (step_name k)) → k < suc n → Contains (written_over (single_steps n) ++ step_name n ∷ []) (step_name k)
+has-by : (n k : ℕ) (t : Bool) → nat_eq k n ≡ t → (k < n → Contains (written_over (single_steps n)) (the_name k)) → k < suc n → Contains (written_over (single_steps n) ++ the_name n ∷ []) (the_name k)
 has-by n k true e before below =
-    subst (λ m. Contains (written_over (single_steps n) ++ step_name n ∷ []) (step_name m)) (sym (eqb-true k n e)) (Contains-push (written_over (single_steps n)) (step_name n))
+    subst (λ m. Contains (written_over (single_steps n) ++ the_name n ∷ []) (the_name m)) (sym (eqb-true k n e)) (Contains-push (written_over (single_steps n)) (the_name n))
 has-by n k false e before below =
-    Contains-append_left (written_over (single_steps n)) (step_name n ∷ []) (step_name k) (before (omega (arith, below, eqb-false k n e)))
+    Contains-append_left (written_over (single_steps n)) (the_name n ∷ []) (the_name k) (before (omega (arith, below, eqb-false k n e)))
 
-pub written-has : (n k : ℕ) → k < n → Contains (written_over (single_steps n)) (step_name k)
+pub written-has : (n k : ℕ) → k < n → Contains (written_over (single_steps n)) (the_name k)
 written-has zero k below = absurd (omega (arith, below))
-written-has (suc n) k below = subst (λ l. Contains l (step_name k)) (sym (written-more n)) (has-by n k (nat_eq k n) refl (written-has n k) below)
+written-has (suc n) k below = subst (λ l. Contains l (the_name k)) (sym (the-more n)) (has-by n k (nat_eq k n) refl (written-has n k) below)
 
-pub from_written : (P : FileName → Type 0) (n k : ℕ) → k < n → All P (written_over (single_steps n)) → P (step_name k)
-from_written P n k below all = All-contains P (written_over (single_steps n)) (step_name k) all (written-has n k below)
+pub from_written : (P : FileName → Type 0) (n k : ℕ) → k < n → All P (written_over (single_steps n)) → P (the_name k)
+from_written P n k below all = All-contains P (written_over (single_steps n)) (the_name k) all (written-has n k below)
 
 -- each is a name of the grammar, of a kind that is built and of complete steps
 complete : (next size steps k : ℕ) → steps * size ≤ next → k < steps → (k + 1) * size ≤ next
@@ -152,8 +152,8 @@ complete next size steps k all below =
     let within : (k + 1) * size ≤ steps * size = mul-le (k + 1) size steps size (omega (arith, below)) (omega arith) in
     omega (arith, within, all)
 
-pub may_stand : (list : ChangeList) (k steps : ℕ) → steps * list.size ≤ list.next → k < steps → MayStand list (step_name k)
-may_stand list k steps all below = record { built = built-step k; complete = complete list.next list.size steps k all below }
+pub the-may : (list : ChangeList) (k steps : ℕ) → steps * list.size ≤ list.next → k < steps → MayStand list (the_name k)
+the-may list k steps all below = record { built = the-built k; complete = complete list.next list.size steps k all below }
 
 -- the name is one of the grammar and may stand
 abbrev pub IsDue : ChangeList → FileName → Type 0
@@ -161,7 +161,7 @@ IsDue list name = (is_name name ≡ true) × MayStand list name
 
 pub are_due : (list : ChangeList) (steps : ℕ) → steps ≤ 4096 → steps * list.size ≤ list.next → All (IsDue list) (written_over (single_steps steps))
 are_due list steps small all =
-    All-written (IsDue list) steps (λ k below. (is_name-step k (omega (arith, below, small)), may_stand list k steps all below))
+    All-written (IsDue list) steps (λ k below. (the-name k (omega (arith, below, small)), the-may list k steps all below))
 
 -- complete steps are few, and within the list
 pub complete-within : (list : ChangeList) → complete_steps list * list.size ≤ list.next
@@ -171,3 +171,38 @@ pub complete-small : (list : ChangeList) → IsChangeList list → complete_step
 complete-small list valid =
     let below : list.next / list.size < 4097 = div_below list.next list.size 4097 (omega (arith, valid.size_from_one)) (omega (arith, valid.next_within, valid.size_from_one)) in
     omega (arith, below)
+
+-- ---- the same by the entity that has files
+
+only_filed : (e : Entity) → has_files e ≡ true → e ≡ Accounts
+unfolding has_files
+only_filed Accounts h = refl
+only_filed Storage h = cc h
+only_filed Code h = cc h
+only_filed LogAddrs h = cc h
+only_filed LogTopics h = cc h
+only_filed TracesFrom h = cc h
+only_filed TracesTo h = cc h
+
+-- one entity alone has files
+pub same_filed : (e f : Entity) → has_files e ≡ true → has_files f ≡ true → e ≡ f
+same_filed e f one two = only_filed e one ∙ sym (only_filed f two)
+
+module _ (e : Entity) (filed : has_files e ≡ true) where
+  by_accounts : (P : Entity → Type 0) → P Accounts → P e
+  by_accounts P p = subst P (sym (only_filed e filed)) p
+
+  pub written-more : (n : ℕ) → written_over (single_steps (suc n)) ≡ written_over (single_steps n) ++ step_name e n ∷ []
+  written-more n = by_accounts (λ f. written_over (single_steps (suc n)) ≡ written_over (single_steps n) ++ step_name f n ∷ []) (the-more n)
+
+  pub written-next : (n : ℕ) → written_over (single_steps (n + 1)) ≡ written_over (single_steps n) ++ step_name e n ∷ []
+  written-next n = by_accounts (λ f. written_over (single_steps (n + 1)) ≡ written_over (single_steps n) ++ step_name f n ∷ []) (the-next n)
+
+  pub is_name-step : (n : ℕ) → n < 4096 → is_name (step_name e n) ≡ true
+  is_name-step n small = by_accounts (λ f. is_name (step_name f n) ≡ true) (the-name n small)
+
+  pub may_stand : (list : ChangeList) (n steps : ℕ) → steps * list.size ≤ list.next → n < steps → MayStand list (step_name e n)
+  may_stand list n steps all below = by_accounts (λ f. MayStand list (step_name f n)) (the-may list n steps all below)
+
+  pub written-is : (n : ℕ) (name : FileName) → Contains (written_over (single_steps n)) name → (k : ℕ) × (k < n) × (name ≡ step_name e k)
+  written-is n name h = by_accounts (λ f. (k : ℕ) × (k < n) × (name ≡ step_name f k)) (the-is n name h)

@@ -1,5 +1,6 @@
 -- What a disk holds of a list's files, name by name.
-use Rattle.std.specs.Prelude.{◌≡◌, ◌≢◌, ◌⊎◌, ℕ, ◌*◌, ◌<◌, ◌≤◌, List, All, Contains, Option, Some, None, IfSome, IfNone, IsSomeAnd, IsTrue, true, is_some}
+use Rattle.std.specs.Prelude.{◌≡◌, ◌≢◌, ◌⊎◌, ℕ, ◌*◌, ◌<◌, ◌≤◌, List, All, Contains, true}
+use Rattle.std.specs.Prelude.{Option, Some, None, IfSome, IfNone, IsSomeAnd, IsTrue, is_some}
 use Rattle.std.specs.FinMap.{get, insert, remove}
 use Rattle.agg_outside.specs.Files.{Files, SameElsewhere}
 use Rattle.agg_model.specs.declared.entity.Entity.{Entity}
@@ -34,8 +35,8 @@ pub record IsOutside (text : List ℕ) : Type 0 where
 abbrev pub AreOutsideSame : Files → Files → Type 0
 AreOutsideSame before after = (text : List ℕ) → IsOutside text → get after text ≡ get before text
 
--- The same of disks that may tell what they hold, and what one of them tells or keeps silent about it
--- goes on telling, or keeps silent about.
+-- The same of a disk that may tell what it holds: if it told before, it tells after; if it didn't, it
+-- doesn't.
 pub record SameOutside (before after : Option Files) : Type 0 where
   pub told : IfSome before (λ f. IsSomeAnd after (AreOutsideSame f))
   pub silent : IfNone before (after ≡ None)
@@ -54,11 +55,20 @@ pub record HasExactly (list : ChangeList) (names : List FileName) (now : Files) 
 abbrev pub HasWritten : ChangeList → Files → Type 0
 HasWritten list now = HasExactly list (written_names list) now
 
+-- a file of the list with these bytes may stand under the name
+abbrev pub IsFileOf : ChangeList → FileName → List ℕ → Type 0
+IsFileOf list name bytes = (bytes ≡ file_bytes list name) × MayStand list name
+
+-- a temporary name may be left of a file that may stand and isn't there
+abbrev pub MayBeLeft : ChangeList → FileName → Files → Type 0
+MayBeLeft list name now = MayStand list name × (get now (spelled name) ≡ None)
+
 -- Of the grammar there are files of the list alone, each with its bytes, and temporary names of such
 -- files alone that aren't there themselves.
 pub record KeepsNamed (list : ChangeList) (now : Files) : Type 0 where
-  pub named : (name : FileName) → IsTrue (is_name name) → IfSome (get now (spelled name)) (λ bytes. (bytes ≡ file_bytes list name) × MayStand list name)
-  pub temporary : (name : FileName) → IsTrue (is_name name) → IfSome (get now (temporary_of name)) (λ _. MayStand list name × (get now (spelled name) ≡ None))
+  pub named : (name : FileName) → IsTrue (is_name name) → IfSome (get now (spelled name)) (IsFileOf list name)
+  pub temporary : (name : FileName) → IsTrue (is_name name) →
+      IfSome (get now (temporary_of name)) (λ _. MayBeLeft list name now)
 
 -- a file of this entity and kind that is there is over the step
 pub record IsCovered (now : Files) (e : Entity) (k : FileKind) (step : ℕ) : Type 0 where
@@ -70,4 +80,5 @@ pub record IsCovered (now : Files) (e : Entity) (k : FileKind) (step : ℕ) : Ty
 
 -- each of the first steps is covered by files that are there, of every kind that is built
 abbrev pub Covers : ℕ → Files → Type 0
-Covers steps now = (e : Entity) (k : FileKind) (step : ℕ) → IsTrue (is_built e k) → step < steps → IsCovered now e k step
+Covers steps now =
+    (e : Entity) (k : FileKind) (step : ℕ) → IsTrue (is_built e k) → step < steps → IsCovered now e k step

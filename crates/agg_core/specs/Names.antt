@@ -1,7 +1,8 @@
 -- Which files a list has: so far values of accounts, one file for each complete step.
 use Rattle.std.specs.Prelude.{ℕ, zero, suc, ◌+◌, ◌/◌, ◌&&◌, Bool, true, false, List, [], ◌∷◌, ◌++◌, filter}
 use Rattle.agg_model.specs.declared.entity.Entity.{Entity}
-use Rattle.agg_model.specs.declared.entity.Entity.TheVariants.{Accounts, Storage, Code, LogAddrs, LogTopics, TracesFrom, TracesTo}
+use Rattle.agg_model.specs.declared.entity.Entity.TheVariants.{Accounts, Storage, Code}
+use Rattle.agg_model.specs.declared.entity.Entity.TheVariants.{LogAddrs, LogTopics, TracesFrom, TracesTo}
 use Rattle.agg_model.specs.declared.entity.Range.{Range}
 use Rattle.agg_model.specs.declared.entity.FileKind.{FileKind}
 use Rattle.agg_model.specs.declared.entity.FileKind.TheVariants.{Kv, Bt, Kvi, V, Vi, Ef, Efi}
@@ -45,6 +46,10 @@ single_step n = record { from = n; to = n + 1 }
 abbrev pub single_steps : ℕ → List Range
 single_steps zero = []
 single_steps (suc n) = single_steps n ++ single_step n ∷ []
+
+-- the name of the file of an entity over one step
+abbrev pub step_name : Entity → ℕ → FileName
+step_name e n = record { entity = e; range = single_step n; kind = Kv }
 
 -- the ranges of steps that the files of a list are over
 abbrev pub cut_of : ChangeList → List Range

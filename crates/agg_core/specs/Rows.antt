@@ -20,7 +20,13 @@ abbrev pub said_by : Row → Said
 said_by row = record { entity = row.id.entity; key = row.id.key; tx = row.id.tx; act = row.act; value = row.value }
 
 abbrev pub said_of : Change → Said
-said_of c = record { entity = entity_number c.entity; key = c.key; tx = c.tx; act = act_number c.act; value = act_value c.act }
+said_of c = record {
+  entity = entity_number c.entity;
+  key = c.key;
+  tx = c.tx;
+  act = act_number c.act;
+  value = act_value c.act;
+}
 
 -- one row for each change of the list, in the order of rows, all alive, and the floor is 0
 pub record HasRows (held : Held) (list : ChangeList) : Type 0 where

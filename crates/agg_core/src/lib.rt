@@ -2,5 +2,7 @@
 #![tactic(auto)]
 
 mod laws;
+mod names;
 
 pub use laws::{file_laws, written_laws};
+pub use names::{filed_entity, has_files, step_name};

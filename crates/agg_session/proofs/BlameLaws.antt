@@ -22,10 +22,6 @@ pub rose_since : (first before now : ℕ) → first ≤ before → Rose before n
 rose_since first before now low (inl more) = inl (omega (arith, more))
 rose_since first before now low (inr top) = inr top
 
-pub rose_later : (before now last : ℕ) → now ≤ last → Rose before now → Rose before last
-rose_later before now last low (inl more) = inl (omega (arith, more))
-rose_later before now last low (inr top) = inr (omega (arith, top))
-
 -- ---- ends that a call can't have
 
 pub wants_done : {T : Type 0} (r : Result T LinkEnd) → r ≡ Err ends.Done → IfErr r IsWant → ⊥

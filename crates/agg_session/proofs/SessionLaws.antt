@@ -128,26 +128,6 @@ view_at P Q t (o ∷ os) list gives all e =
       | false ↦ λ later. view_at P Q t os list gives (All-tail P o os all) later
     ] e
 
--- ---- the devices
-
--- a call that doesn't touch them
-pub untouched : {T D K : Type 0} (disk : DiskGhosts D) (keeper : KeeperGhosts K) (old new : Store D K) (result : Result T Stop) → new ≡ old → HasCauses disk keeper old old result → KeepsDevices disk keeper old new result
-untouched disk keeper old new result same never =
-    subst (λ (x : Store _ _). KeepsDevices disk keeper old x result) (sym same) (record { goes = goes-refl disk keeper old; causes = never })
-
--- a call that blames as the one below it does
-pub passed_on : {T S D K : Type 0} (disk : DiskGhosts D) (keeper : KeeperGhosts K) (old new : Store D K) (stop : Stop) (result : Result T Stop) (below : Result S Stop) → result ≡ Err stop → below ≡ Err stop → Goes disk keeper old new → HasCauses disk keeper old new below → KeepsDevices disk keeper old new result
-passed_on disk keeper old new stop result below is was goes causes = record {
-  goes = goes;
-  causes = record {
-    of_disk = λ e. causes.of_disk (was ∙ ap Err (same_stop result stop stops.Disk is e));
-    of_keeper = λ e. causes.of_keeper (was ∙ ap Err (same_stop result stop stops.Keeper is e));
-  };
-}
-  where
-    same_stop : {T : Type 0} (r : Result T Stop) (a b : Stop) → r ≡ Err a → r ≡ Err b → a ≡ b
-    same_stop r a b e f = cc
-
 -- ---- `close`
 
 closed-by : {D K : Type 0} (disk : DiskGhosts D) (keeper : KeeperGhosts K) (new : Session D K) (t : ℕ) (s : State) (o : Option ChangeList) → true ≡ is_some (option_map (λ (l : ChangeList). l.next) o) → Stands disk keeper new (record s { transactions = openings_without t s.transactions }) → Answers disk keeper new (Some says.Ok) (close_on t o s)

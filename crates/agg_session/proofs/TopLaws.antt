@@ -88,7 +88,7 @@ holds_nothing disk keeper store size from_one within rows next content is none n
   content = content;
   size = is;
   complete = rw none (no_steps size);
-  read = rw none refl;
+  read = λ e filed. rw none refl;
   stand = λ f told. subst (λ n. HasExactly (empty_list size) (held_names n) f) (sym (ap length none)) (nothing_there (empty_list size) (held_names 0) f written-none (nothing f told));
 }
   where
@@ -328,17 +328,6 @@ short_run None left most long short = short
 short_run (Some input) left most long short = not_long left most input (long input refl) short
 
 -- ---- what the words ask for
-
--- what a run does at the program's limits, at the step size of its words
-pub at_run : (P : Limits → ℕ → Type 0) (limits : Limits) (words : List (List ℕ)) (size workers asked : ℕ) → limits ≡ usual_limits → command_of words ≡ Some (Run size workers) → AsksForRun words asked → P limits size → P usual_limits asked
-at_run P limits words size workers asked usual is asks h =
-    subst (λ l. P l asked) usual (subst (P limits) (same size workers asked asks.0 (sym is ∙ asks.1)) h)
-  where
-    same : (a b c d : ℕ) → Some (Run a b) ≡ Some (Run c d) → a ≡ c
-    same a b c d e = cc
-
-pub usage_of_run : (s : Status) (o : Option Command) (c : Command) → o ≡ Some c → (s ≡ status.Usage → ⊥) → (s ≡ status.Usage) ↔ (o ≡ None)
-usage_of_run s o c some never = (λ e. absurd (never e), λ none. cc)
 
 module _ (e : WordsError) (s : Status) (is : s ≡ status_of_words e) where
   pub not_status : (t : Status) → (status.Usage ≡ t → ⊥) → (status.Memory ≡ t → ⊥) → s ≡ t → ⊥

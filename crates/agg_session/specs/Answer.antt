@@ -1,5 +1,6 @@
 -- The replies of a session to a text, and the state after it.
-use Rattle.std.specs.Prelude.{◌≡◌, ◌⊎◌, ◌≤◌, ℕ, ◌+◌, List, [], ◌∷◌, ◌++◌, length, Option, Some, unwrap_or, Result, Ok, Err}
+use Rattle.std.specs.Prelude.{◌≡◌, ◌⊎◌, ◌≤◌, ℕ, ◌+◌, List, [], ◌∷◌, ◌++◌, length}
+use Rattle.std.specs.Prelude.{Option, Some, unwrap_or, Result, Ok, Err}
 use Rattle.std.specs.Option.{ForSome}
 use Rattle.agg_model.specs.ChangeList.{ChangeList}
 use Rattle.line_words.specs.declared.request.Request.{Request}
@@ -55,7 +56,8 @@ state_after limits number (line ∷ lines) s = state_after limits (number + 1) l
 abbrev pub AreSettled : Limits → ℕ → List Piece → State → ℕ → Type 0
 AreSettled limits number [] s steps = Unit {0}
 AreSettled limits number (line ∷ lines) s steps =
-    ((effect limits number line s).settled ≤ steps) × AreSettled limits (number + 1) lines (effect limits number line s).state steps
+    ((effect limits number line s).settled ≤ steps)
+    × AreSettled limits (number + 1) lines (effect limits number line s).state steps
 
 -- texts one after another
 abbrev pub joined : List (List ℕ) → List ℕ
@@ -93,9 +95,10 @@ IsBegun limits number (line ∷ lines) s part list =
     ⊎ (BeginsWith part (effect limits number line s).reply × (list ≡ (effect limits number line s).state.list))
 
 -- Lines from a start on are answered up to somewhere: the first of them whole, the next one in part or
--- not at all. What is written stands behind what the sink had at first, where it tells. So many first
+-- not at all. What is written stands behind what the sink had at first, where it tells. The first `steps`
 -- steps are in files, as the whole answers say, and the list that was come to is kept.
-pub record IsPartway (limits : Limits) (start : State) (lines : List Piece) (first out : Option (List ℕ)) (steps : ℕ) (IsKept : ChangeList → Type 0) : Type 0 where
+pub record IsPartway (limits : Limits) (start : State) (lines : List Piece) (first out : Option (List ℕ)) (steps : ℕ)
+    (IsKept : ChangeList → Type 0) : Type 0 where
   pub answered : List Piece
   pub rest : List Piece
   pub lines_are : lines ≡ answered ++ rest

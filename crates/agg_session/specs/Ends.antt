@@ -24,7 +24,8 @@ end_of_sink sink.Memory = ends.Memory
 
 -- What each call of a link keeps of its devices, and whom it may blame: each only where its count of
 -- faults rose, and the source only in this case.
-pub record IsBlamed {D K O T : Type 0} (disk : DiskGhosts D) (keeper : KeeperGhosts K) (sink : SinkGhosts O) (Case : Type 0) (old new : Store D K) (out_old out : O) (result : Result T LinkEnd) : Type 0 where
+pub record IsBlamed {D K O T : Type 0} (disk : DiskGhosts D) (keeper : KeeperGhosts K) (sink : SinkGhosts O)
+    (Case : Type 0) (old new : Store D K) (out_old out : O) (result : Result T LinkEnd) : Type 0 where
   pub goes : Goes disk keeper old new
   pub sink_stays : sink.faults out_old ≤ sink.faults out
   pub disk_rose : IsErrOf result ends.Disk → Rose (disk.faults old.disk) (disk.faults new.disk)

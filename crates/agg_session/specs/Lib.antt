@@ -7,3 +7,4 @@ pub mod Statuses
 pub mod Served
 pub mod Written
 pub mod Top
+pub mod Over

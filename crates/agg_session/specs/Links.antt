@@ -1,5 +1,6 @@
 -- When a link's fields are in order, and which state they stand for.
-use Rattle.std.specs.Prelude.{◌≡◌, ℕ, ◌<◌, ◌≤◌, List, [], ◌∷◌, map, length, Option, Some, None, unwrap_or, slice_get, remove, ◌==◌, if◌then◌else◌, All}
+use Rattle.std.specs.Prelude.{◌≡◌, ℕ, ◌<◌, ◌≤◌, List, [], ◌∷◌, map, length, Option, Some, None, unwrap_or, slice_get}
+use Rattle.std.specs.Prelude.{remove, ◌==◌, if◌then◌else◌, All}
 use Rattle.agg_model.specs.Batch.{IsBatch, content_of}
 use Rattle.agg_model.specs.declared.change.Change.{Change}
 use Rattle.agg_session.specs.declared.limits.Limits.{Limits}

@@ -1,5 +1,6 @@
 -- What a session is between two lines, and what each request makes of it.
-use Rattle.std.specs.Prelude.{ℕ, ◌+◌, ◌*◌, Bool, true, false, ◌&&◌, ◌==◌, nat_lt, nat_le, if◌then◌else◌, List, [], ◌∷◌, ◌++◌, map, length, Option, Some, None}
+use Rattle.std.specs.Prelude.{ℕ, ◌+◌, ◌*◌, Bool, true, false, ◌&&◌, ◌==◌, nat_lt, nat_le, if◌then◌else◌, List, [], ◌∷◌}
+use Rattle.std.specs.Prelude.{◌++◌, map, length, Option, Some, None}
 use Rattle.agg_model.specs.declared.entity.Entity.{Entity}
 use Rattle.agg_model.specs.declared.change.Act.TheVariants.{Put}
 use Rattle.agg_model.specs.declared.change.Change.{Change}
@@ -85,14 +86,22 @@ may_commit limits s = may_grow limits.content s.list s.pending
 abbrev pub commit_on : Limits → State → Outcome
 commit_on limits s =
     if may_commit limits s
-    then accepted (record (cleared s) { list = grown s.list (merged s.pending) }) (says.Committed (length (merged s.pending)) (next_of s.list.next (merged s.pending)))
+    then accepted (record (cleared s) { list = grown s.list (merged s.pending) })
+    (says.Committed (length (merged s.pending)) (next_of s.list.next (merged s.pending)))
     else refused (cleared s)
+
+-- one more transaction, of the list as it stands
+abbrev pub with_opening : State → State
+with_opening s = record s {
+  opens = s.opens + 1;
+  transactions = s.transactions ++ record { number = s.opens + 1; list = s.list } ∷ [];
+}
 
 -- `open`: a transaction of the list as it stands
 abbrev pub open_on : Limits → State → Outcome
 open_on limits s =
     if nat_lt (length s.transactions) limits.opens
-    then accepted (record s { opens = s.opens + 1; transactions = s.transactions ++ record { number = s.opens + 1; list = s.list } ∷ [] }) (says.Opened (s.opens + 1) s.list.next)
+    then accepted (with_opening s) (says.Opened (s.opens + 1) s.list.next)
     else refused s
 
 -- the list at the opening of a transaction, where it is open

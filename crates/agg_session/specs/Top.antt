@@ -50,7 +50,8 @@ abbrev pub AsksForRun : List (List ℕ) → ℕ → Type 0
 AsksForRun words size = (workers : ℕ) × (command_of words ≡ Some (Run size workers))
 
 -- the store holds the list, and all complete steps are in files
-pub record IsSettled {D K : Type 0} (disk : DiskGhosts D) (keeper : KeeperGhosts K) (store : Store D K) (list : ChangeList) : Type 0 where
+pub record IsSettled {D K : Type 0} (disk : DiskGhosts D) (keeper : KeeperGhosts K) (store : Store D K)
+    (list : ChangeList) : Type 0 where
   pub holds : Holds disk keeper store list
   pub all : steps_held store ≡ complete_steps list
 
@@ -66,7 +67,8 @@ pub record AreLeft (held : Option Held) (files : Option Files) (list : ChangeLis
 
 -- The source was taken to its end, what was written is the replies to all of it, and all complete steps
 -- are in files, and of the grammar nothing else.
-pub record EndsWhole (limits : Limits) (list : ChangeList) (left_old left out_old out : Option (List ℕ)) (held : Option Held) (files : Option Files) : Type 0 where
+pub record EndsWhole (limits : Limits) (list : ChangeList) (left_old left out_old out : Option (List ℕ))
+    (held : Option Held) (files : Option Files) : Type 0 where
   pub text : List ℕ
   pub is_taken : IsTaken left_old text left
   pub all : IsAtEnd left_old left
@@ -76,20 +78,23 @@ pub record EndsWhole (limits : Limits) (list : ChangeList) (left_old left out_ol
   pub stand : ForSome files (HasWritten (after limits list text))
 
 -- The source was taken in part, and what was written is the replies to all lines whose line feed was
--- taken. So many first steps are covered by files, as these replies say.
-pub record EndsBetween (limits : Limits) (list : ChangeList) (left_old left out_old out : Option (List ℕ)) (held : Option Held) (files : Option Files) : Type 0 where
+-- taken. The first `steps` steps are covered by files, as these replies say.
+pub record EndsBetween (limits : Limits) (list : ChangeList) (left_old left out_old out : Option (List ℕ))
+    (held : Option Held) (files : Option Files) : Type 0 where
   pub text : List ℕ
   pub is_taken : IsTaken left_old text left
   pub within : length text ≤ limits.bytes
-  pub written : ForSome out_old (λ before. out ≡ Some (before ++ joined (replies limits 1 (ended_lines limits.line text) (starting list))))
+  pub written : ForSome out_old
+      (λ before. out ≡ Some (before ++ joined (replies limits 1 (ended_lines limits.line text) (starting list))))
   pub kept : AreLeft held files (state_after limits 1 (ended_lines limits.line text) (starting list)).list
   pub steps : ℕ
   pub settled : AreSettled limits 1 (ended_lines limits.line text) (starting list) steps
   pub covered : ForSome files (Covers steps)
 
 -- The source was taken in part, and what was written is the replies to its first lines and a part of
--- the next one's. So many first steps are covered by files, as the whole replies say.
-pub record EndsWithin (limits : Limits) (list : ChangeList) (left_old left out_old out : Option (List ℕ)) (held : Option Held) (files : Option Files) : Type 0 where
+-- the next one's. The first `steps` steps are covered by files, as the whole replies say.
+pub record EndsWithin (limits : Limits) (list : ChangeList) (left_old left out_old out : Option (List ℕ))
+    (held : Option Held) (files : Option Files) : Type 0 where
   pub text : List ℕ
   pub is_taken : IsTaken left_old text left
   pub within : length text ≤ limits.bytes

@@ -1,9 +1,13 @@
-ghost use Rattle.std.specs.Prelude.{◌≤◌, ◌^◌, Some};
+ghost use Rattle.std.specs.Prelude.{◌≡◌, ◌≤◌, ◌^◌, Some};
+ghost use Rattle.std.specs.Option.{ForSome};
+ghost use Rattle.agg_session.specs.Top.{empty_held};
 
 use crate::tests::{FIRST_PATH, FIRST_REPLIES, empty_keeper, status_of_words, words_of};
 use crate::*;
 use agg_outside::*;
+use line_words::LineCut;
 use memory_side::*;
+use plain_state::Store;
 use std::alloc::Global;
 use std::process::Abort;
 use std::rt::Clock;
@@ -95,21 +99,20 @@ impl Sink for Narrow {
     }
 }
 
+// How much is written before each call; the third begins the reply to the commit.
+const WRITTEN: &[u8] = b"\x00\x03\x06\x09\x0c\x0f\x12\x14\x17\x1a\x1d\x1f\x22\x25\x28\x2b\x2d";
+
 #[test]
 fn a_sink_that_fails_has_a_first_part_of_the_replies(rt: HostRuntime) -> Result<(), Fail> {
     let alloc = rt.alloc();
-    // How much is written before each call; the third begins the reply to the commit.
-    let written = [
-        0, 3, 6, 9, 12, 15, 18, 20, 23, 26, 29, 31, 34, 37, 40, 43, 45,
-    ];
-    for (i, written) in written.into_iter().enumerate() {
+    for (i, written) in WRITTEN.iter().enumerate() {
         let mut source = SureSource::new(alloc, FIRST_PATH)?;
         let sink = MemSink::new(alloc, &[], &[i as u64 + 1])?;
         let mut narrow = Narrow { sink };
         let end = ends(&rt, alloc, &Limits::usual(), &[], &mut source, &mut narrow)?;
         assert_eq!(rt; end, (Status::SinkFault, if i < 2 { 0 } else { 1 }));
         assert!(rt; FIRST_REPLIES.starts_with(narrow.sink.bytes()));
-        assert_eq!(rt; narrow.sink.bytes().len(), written);
+        assert_eq!(rt; narrow.sink.bytes().len(), *written as usize);
     }
     Ok(())
 }
@@ -136,10 +139,64 @@ fn a_run_answers_a_whole_line_before_it_takes_more(rt: HostRuntime) -> Result<()
     let mut sink = MemSink::new(alloc, &[], &[1])?;
     let end = ends(&rt, alloc, &Limits::usual(), &[], &mut source, &mut sink)?;
     assert_eq!(rt; end, (Status::SinkFault, 0));
+    Ok(())
+}
+
+#[test]
+fn the_top_call_answers_a_whole_line_before_it_takes_more(rt: HostRuntime) -> Result<(), Fail> {
+    let alloc = rt.alloc();
     let words = words_of(alloc, &["run"])?;
     let mut source = MemSource::new(alloc, WHOLE_LINE, &[2])?;
     let mut sink = MemSink::new(alloc, &[], &[1])?;
     let status = status_of_words(&rt, alloc, words.as_slice(), &mut source, &mut sink)?;
     assert_eq!(rt; status, Status::SinkFault);
+    Ok(())
+}
+
+// How the link ends that serves the source, over a disk and a keeper that are empty.
+fn end_of_link<D: Disk, K: Keeper, I: Source, O: Sink>(
+    alloc: Global,
+    disk: D,
+    keeper: K,
+    source: &mut I,
+    sink: &mut O,
+) -> LinkEnd
+    requires { ForSome (K.held keeper) (λ h. h ≡ empty_held) }
+{
+    let limits = Limits::usual();
+    let mut served = Served {
+        cut: LineCut::new(alloc, limits.line),
+        session: Session {
+            store: Store::new(alloc, disk, keeper, 4),
+            link: Link::new(alloc),
+        },
+        lines: 0,
+    };
+    let end = serve(alloc, &limits, &mut served, source, sink);
+    end
+}
+
+#[test]
+fn a_link_answers_a_whole_line_before_it_takes_more(rt: HostRuntime) -> Result<(), Fail> {
+    let alloc = rt.alloc();
+    let disk = SureDisk::new(alloc, &FileMap::new(alloc))?;
+    let keeper = empty_keeper(alloc, &[])?;
+    let mut source = MemSource::new(alloc, WHOLE_LINE, &[2])?;
+    let mut sink = MemSink::new(alloc, &[], &[1])?;
+    let end = end_of_link(alloc, disk, keeper, &mut source, &mut sink);
+    assert_eq!(rt; end, LinkEnd::Sink);
+    Ok(())
+}
+
+#[test]
+fn a_link_whose_source_fails_leaves_the_reply(rt: HostRuntime) -> Result<(), Fail> {
+    let alloc = rt.alloc();
+    let disk = SureDisk::new(alloc, &FileMap::new(alloc))?;
+    let keeper = empty_keeper(alloc, &[])?;
+    let mut source = MemSource::new(alloc, WHOLE_LINE, &[2])?;
+    let mut sink = SureSink::new(alloc, &[])?;
+    let end = end_of_link(alloc, disk, keeper, &mut source, &mut sink);
+    assert_eq!(rt; end, LinkEnd::Source);
+    assert_eq!(rt; sink.bytes(), b"ok\n".as_slice());
     Ok(())
 }

@@ -182,24 +182,31 @@ fn push_number(alloc: Global, text: &mut Vec<u8>, n: u64) -> Result<(), Memory> 
     Ok(())
 }
 
-// The `i`th of the transactions, whose numbers go through 40 steps of eight: one put of a key of two
-// digits, and a look at another that may have been put long before.
-fn push_transaction(alloc: Global, text: &mut Vec<u8>, i: u64) -> Result<(), Memory>
+// A transaction: one put of a key of two digits, and a look at another that may have been put long
+// before. Its numbers stand for the letters from A on.
+const TRANSACTION: &[u8] = b"tx A\nput accounts B C\ncommit\nopen\nlatest D accounts E\nclose D\n";
+
+// The numbers of the `i`th transaction; those of `tx` go through 40 steps of eight.
+fn numbers_of(i: u64) -> [u64; 5]
     requires { i < 300 }
 {
-    text.extend_from_slice(b"tx ")?;
-    push_number(alloc, text, i + (i + 1) / 15)?;
-    text.extend_from_slice(b"\nput accounts ")?;
-    push_number(alloc, text, 10 + 7 * i % 83)?;
-    text.extend_from_slice(b" ")?;
-    push_number(alloc, text, 10 + i % 90)?;
-    text.extend_from_slice(b"\ncommit\nopen\nlatest ")?;
-    push_number(alloc, text, i + 1)?;
-    text.extend_from_slice(b" accounts ")?;
-    push_number(alloc, text, 10 + i % 89)?;
-    text.extend_from_slice(b"\nclose ")?;
-    push_number(alloc, text, i + 1)?;
-    text.extend_from_slice(b"\n")?;
+    [
+        i + (i + 1) / 15,
+        10 + 7 * i % 83,
+        10 + i % 90,
+        i + 1,
+        10 + i % 89,
+    ]
+}
+
+fn push_transaction(alloc: Global, text: &mut Vec<u8>, numbers: [u64; 5]) -> Result<(), Memory> {
+    for byte in TRANSACTION {
+        if (b'A'..=b'E').contains(byte) {
+            push_number(alloc, text, numbers[(*byte - b'A') as usize])?;
+        } else {
+            text.push(*byte)?;
+        }
+    }
     Ok(())
 }
 
@@ -207,7 +214,7 @@ fn push_transaction(alloc: Global, text: &mut Vec<u8>, i: u64) -> Result<(), Mem
 fn transactions(alloc: Global, settles: bool) -> Result<Vec<u8>, Memory> {
     let mut text = Vec::new(alloc);
     for i in 0..300 {
-        push_transaction(alloc, &mut text, i)?;
+        push_transaction(alloc, &mut text, numbers_of(i))?;
         if settles && i % 50 == 49 {
             text.extend_from_slice(b"settle\n")?;
         }

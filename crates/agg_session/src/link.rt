@@ -1,5 +1,6 @@
 //! What a link keeps between two lines, apart from the accepted changes.
-ghost use Rattle.std.specs.Prelude.{◌≡◌, ◌+◌, ◌<◌, ◌≤◌, ◌^◌, [], ◌∷◌, ◌++◌, length, is_some, Some, None, IfOk, IfSome, IfNone, MatchOption, OnErr, nat_lt, nat_le, ◌&&◌};
+ghost use Rattle.std.specs.Prelude.{◌≡◌, ◌+◌, ◌<◌, ◌≤◌, ◌^◌, [], ◌∷◌, ◌++◌, length, is_some, Some, None, IfOk, IfSome};
+ghost use Rattle.std.specs.Prelude.{IfNone, MatchOption, OnErr, nat_lt, nat_le, ◌&&◌};
 ghost use Rattle.std.specs.Bool.{OnTrue, OnFalse};
 ghost use Rattle.agg_model.specs.Batch.{content_of, value_length};
 ghost use Rattle.agg_session.specs.State.{is_above};

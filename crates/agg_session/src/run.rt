@@ -8,7 +8,9 @@ ghost use Rattle.agg_model.specs.ChangeList.{ChangeList};
 ghost use Rattle.agg_core.specs.Files.{SameOutside};
 ghost use Rattle.plain_state.specs.Store.{IsStore, Holds, Keeps, Goes};
 ghost use Rattle.agg_session.specs.Served.{EndsLong, IsAtEnd, TakesAtMost, TakesFewer};
-ghost use Rattle.agg_session.specs.Top.{usual_limits, AsksForRun, IsSettled, empty_list, empty_held, status_of, IsShort, EndsWhole, EndsBetween, EndsWithin, IsBetween, IsCutShort};
+ghost use Rattle.agg_session.specs.Top.{usual_limits, AsksForRun, IsSettled, empty_list, empty_held, status_of};
+ghost use Rattle.agg_session.specs.Top.{IsShort, IsBetween, IsCutShort};
+ghost use Rattle.agg_session.specs.Over.{EndsWholeOver, EndsBetweenOver, EndsWithinOver};
 ghost use Rattle.command_words.specs.CommandWords.{command_of};
 
 use crate::ends::LinkEnd;
@@ -97,15 +99,15 @@ pub fn run_plain<H: Threads + Wait + Clock + Sync, D: Disk, K: Keeper, I: Source
     requires no_files { ForSome (D.files disk) (λ f. f ≡ files.empty) }
     requires no_rows { ForSome (K.held keeper) (λ h. h ≡ empty_held) }
     ensures done { result.status ≡ Status.Done → ForSome (K.held keeper) (λ _.
-        EndsWhole limits.now (empty_list size) (I.left source.old) (I.left source.new) (O.bytes sink.old)
-        (O.bytes sink.new) (K.held result.keeper) (D.files result.disk)) }
+        EndsWholeOver D.Disk K.Keeper I.Source O.Sink limits.now (empty_list size)
+        source.old source.new sink.old sink.new result) }
     ensures between { IsBetween limits.now.bytes (I.left source.old) (I.left source.new) result.status →
         ForSome (K.held keeper) (λ _.
-        EndsBetween limits.now (empty_list size) (I.left source.old) (I.left source.new) (O.bytes sink.old)
-        (O.bytes sink.new) (K.held result.keeper) (D.files result.disk)) }
+        EndsBetweenOver D.Disk K.Keeper I.Source O.Sink limits.now (empty_list size)
+        source.old source.new sink.old sink.new result) }
     ensures within { IsCutShort result.status → ForSome (K.held keeper) (λ _.
-        EndsWithin limits.now (empty_list size) (I.left source.old) (I.left source.new) (O.bytes sink.old)
-        (O.bytes sink.new) (K.held result.keeper) (D.files result.disk)) }
+        EndsWithinOver D.Disk K.Keeper I.Source O.Sink limits.now (empty_list size)
+        source.old source.new sink.old sink.new result) }
     ensures read_whole { result.status ≡ Status.Done → IsAtEnd (I.left source.old) (I.left source.new) }
     ensures read_fewer { result.status ≡ Status.Done →
         TakesFewer limits.now.bytes (I.left source.old) (I.left source.new) }
@@ -167,16 +169,16 @@ pub fn aggregate<
     // The replies are those of the plain change list, its rows are kept, and its files stand.
     ensures done { result.status ≡ Status.Done → ForSome (K.held keeper) (λ _. (size : ℕ) →
         AsksForRun (map string_bytes words.now) size →
-        EndsWhole usual_limits (empty_list size) (I.left source.old) (I.left source.new) (O.bytes sink.old)
-        (O.bytes sink.new) (K.held result.keeper) (D.files result.disk)) }
+        EndsWholeOver D.Disk K.Keeper I.Source O.Sink usual_limits (empty_list size)
+        source.old source.new sink.old sink.new result) }
     ensures between { IsBetween usual_limits.bytes (I.left source.old) (I.left source.new) result.status →
         ForSome (K.held keeper) (λ _. (size : ℕ) → AsksForRun (map string_bytes words.now) size →
-        EndsBetween usual_limits (empty_list size) (I.left source.old) (I.left source.new) (O.bytes sink.old)
-        (O.bytes sink.new) (K.held result.keeper) (D.files result.disk)) }
+        EndsBetweenOver D.Disk K.Keeper I.Source O.Sink usual_limits (empty_list size)
+        source.old source.new sink.old sink.new result) }
     ensures within { IsCutShort result.status → ForSome (K.held keeper) (λ _. (size : ℕ) →
         AsksForRun (map string_bytes words.now) size →
-        EndsWithin usual_limits (empty_list size) (I.left source.old) (I.left source.new) (O.bytes sink.old)
-        (O.bytes sink.new) (K.held result.keeper) (D.files result.disk)) }
+        EndsWithinOver D.Disk K.Keeper I.Source O.Sink usual_limits (empty_list size)
+        source.old source.new sink.old sink.new result) }
     ensures usage { result.status ≡ Status.Usage ↔ (command_of (map string_bytes words.now) ≡ None) }
     ensures usage_untouched { result.status ≡ Status.Usage →
         (source.new ≡ source.old) × (sink.new ≡ sink.old) × (result.disk ≡ disk) × (result.keeper ≡ keeper) }
@@ -187,7 +189,8 @@ pub fn aggregate<
         TakesFewer usual_limits.bytes (I.left source.old) (I.left source.new) }
     ensures read_at_most { TakesAtMost usual_limits.bytes (I.left source.old) (I.left source.new) }
 
-    // What isn't of the grammar stays as it was, and a disk that tells what it holds goes on telling it.
+    // Names outside the grammar stay as they were. The disk tells what it holds after the run if it told
+    // before, and else not.
     ensures outside { SameOutside (D.files disk) (D.files result.disk) }
 
     // A run that nothing ends early is done, or memory could not be had.

@@ -1,11 +1,12 @@
 //! A text that comes in pieces: each line is answered before the next is worked on.
-ghost use Rattle.std.specs.Prelude.{◌≡◌, ◌<◌, ◌≤◌, ◌^◌, ◌+◌, ◌++◌, [], ℕ, List, length, IfOk, IfErr, OnOk, OnErr, IfSome, IfNone, Option, None, is_some, true};
+ghost use Rattle.std.specs.Prelude.{◌≡◌, ◌<◌, ◌≤◌, ◌^◌, ◌+◌, ◌++◌, [], ℕ, List, length, IfOk, IfErr, OnOk, OnErr};
+ghost use Rattle.std.specs.Prelude.{IfSome, IfNone, Option, None, is_some, true};
 ghost use Rattle.std.specs.Bool.{OnTrue, OnFalse};
-ghost use Rattle.line_words.specs.LineCut.{next_cut, rest_cut, pieces_of};
+ghost use Rattle.line_words.specs.LineCut.{cut_of, next_cut, rest_cut, pieces_of};
 ghost use Rattle.agg_session.specs.State.{State};
 ghost use Rattle.agg_session.specs.Ends.{IsBlamed, IsWant};
 ghost use Rattle.agg_session.specs.Answer.{effect, ended_lines};
-ghost use Rattle.agg_session.specs.Running.{IsSession, Stands, HasEffect, EndsAt, KeepsDevices};
+ghost use Rattle.agg_session.specs.Running.{IsSession, IsReplied, Stands, HasEffect, EndsAt, KeepsDevices};
 ghost use Rattle.agg_session.specs.Served.{IsServed, IsAnswered, HasAnswered, HasStopped};
 
 use crate::ends::LinkEnd;
@@ -155,7 +156,6 @@ impl<D: Disk, K: Keeper> Served<D, K> {
 
 // Cuts off the next line that has its line feed, and answers the text of its reply; none where no
 // further line end has come.
-#[tactic(auto, unfolding(crate::specs::Answer::effect))]
 fn next_reply<D: Disk, K: Keeper>(
     alloc: Global,
     limits: &Limits,
@@ -169,26 +169,12 @@ fn next_reply<D: Disk, K: Keeper>(
     ensures sound { IsSession K.Keeper limits.now session.new }
     ensures opens { session.new.link.opens ≤ session.old.link.opens + 1 }
     ensures cut { cut.new ≡ record cut.old { left = (next_cut cut.old).1 } }
-    ensures found { IfOk result (λ text. is_some text ≡ is_some (next_cut cut.old).0) }
-    ensures none { IfOk result (λ text. IfNone text (session.new ≡ session.old)) }
-    ensures exact { (s : State) → Stands D.Disk K.Keeper session.old s →
-        IfOk result (λ text. IfSome text (λ t. IfSome (next_cut cut.old).0
-        (λ piece. HasEffect D.Disk K.Keeper session.new t (effect limits.now number piece s)))) }
-    ensures err_found { OnErr result (true ≡ is_some (next_cut cut.old).0) }
-    ensures err { (s : State) → Stands D.Disk K.Keeper session.old s →
-        OnErr result (IfSome (next_cut cut.old).0 (λ piece. EndsAt D.Disk K.Keeper session.new.store s.list
-        (effect limits.now number piece s).state.list)) }
-    ensures devices { KeepsDevices D.Disk K.Keeper session.old.store session.new.store result }
+    ensures replied { IsReplied D.Disk K.Keeper limits.now number (next_cut cut.old).0 session.old session.new result }
 {
-    match cut.next() {
-        Cutting::Line(line) => Ok(Some(session.line(alloc, limits, number, line)?)),
-        Cutting::Long => Ok(Some(Reply::ErrSyntax(number).print(alloc)?)),
-        Cutting::NotYet => Ok(None),
-    }
+    reply_to(alloc, limits, number, cut.next(), session)
 }
 
 // The same of the last line, which has no line feed.
-#[tactic(auto, unfolding(crate::specs::Answer::effect))]
 fn last_reply<D: Disk, K: Keeper>(
     alloc: Global,
     limits: &Limits,
@@ -202,18 +188,37 @@ fn last_reply<D: Disk, K: Keeper>(
     ensures sound { IsSession K.Keeper limits.now session.new }
     ensures opens { session.new.link.opens ≤ session.old.link.opens + 1 }
     ensures cut { cut.new ≡ record cut.old { left = [] } }
-    ensures found { IfOk result (λ text. is_some text ≡ is_some (rest_cut cut.old)) }
+    ensures replied { IsReplied D.Disk K.Keeper limits.now number (rest_cut cut.old) session.old session.new result }
+{
+    reply_to(alloc, limits, number, cut.rest(), session)
+}
+
+// The text of the reply to what was cut off; none where nothing was.
+#[tactic(auto, unfolding(crate::specs::Answer::effect))]
+fn reply_to<D: Disk, K: Keeper>(
+    alloc: Global,
+    limits: &Limits,
+    number: u64,
+    cutting: Cutting<'_>,
+    session: &mut Session<D, K>,
+) -> Result<Option<Bytes>, Stop>
+    requires limit { limits.now.content ≤ 2 ^ 28 }
+    requires sound { IsSession K.Keeper limits.now session.old }
+    requires opens { session.old.link.opens < 2 ^ 63 }
+    ensures sound { IsSession K.Keeper limits.now session.new }
+    ensures opens { session.new.link.opens ≤ session.old.link.opens + 1 }
+    ensures found { IfOk result (λ text. is_some text ≡ is_some (cut_of cutting.entry)) }
     ensures none { IfOk result (λ text. IfNone text (session.new ≡ session.old)) }
     ensures exact { (s : State) → Stands D.Disk K.Keeper session.old s →
-        IfOk result (λ text. IfSome text (λ t. IfSome (rest_cut cut.old)
+        IfOk result (λ text. IfSome text (λ t. IfSome (cut_of cutting.entry)
         (λ piece. HasEffect D.Disk K.Keeper session.new t (effect limits.now number piece s)))) }
-    ensures err_found { OnErr result (true ≡ is_some (rest_cut cut.old)) }
+    ensures err_found { OnErr result (true ≡ is_some (cut_of cutting.entry)) }
     ensures err { (s : State) → Stands D.Disk K.Keeper session.old s →
-        OnErr result (IfSome (rest_cut cut.old) (λ piece. EndsAt D.Disk K.Keeper session.new.store s.list
+        OnErr result (IfSome (cut_of cutting.entry) (λ piece. EndsAt D.Disk K.Keeper session.new.store s.list
         (effect limits.now number piece s).state.list)) }
     ensures devices { KeepsDevices D.Disk K.Keeper session.old.store session.new.store result }
 {
-    match cut.rest() {
+    match cutting {
         Cutting::Line(line) => Ok(Some(session.line(alloc, limits, number, line)?)),
         Cutting::Long => Ok(Some(Reply::ErrSyntax(number).print(alloc)?)),
         Cutting::NotYet => Ok(None),

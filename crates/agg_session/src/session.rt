@@ -7,7 +7,8 @@ ghost use Rattle.line_words.specs.Requests.{IsRequest, request_of};
 ghost use Rattle.plain_state.specs.Store.{Keeps, HasView, view_of, steps_held};
 ghost use Rattle.agg_session.specs.declared.limits.Limits.{Limits as TheLimits};
 ghost use Rattle.agg_session.specs.Links.{open_of};
-ghost use Rattle.agg_session.specs.State.{State, outcome, number_on, put_on, commit_on, open_on, close_on, latest_on, settle_on, list_at};
+ghost use Rattle.agg_session.specs.State.{State, outcome, number_on, put_on, commit_on, open_on, close_on, latest_on};
+ghost use Rattle.agg_session.specs.State.{settle_on, list_at};
 ghost use Rattle.agg_session.specs.Answer.{short_effect, read_outcome};
 ghost use Rattle.agg_session.specs.Running.{IsSession, Stands, Answers, HasEffect, EndsAt, KeepsDevices, ReadsOwnView};
 

@@ -1,11 +1,13 @@
 //! A session over a source and a sink: takes bytes, and answers each line before it takes more.
-ghost use Rattle.std.specs.Prelude.{◌≡◌, ◌⊎◌, ◌<◌, ◌≤◌, ◌^◌, ◌+◌, length, None, IfOk, OnOk, OnErr, IfErr, IsErrOf, MatchResult};
+ghost use Rattle.std.specs.Prelude.{◌≡◌, ◌⊎◌, ◌<◌, ◌≤◌, ◌^◌, ◌+◌, length, None, IfOk, OnOk, OnErr, IfErr, IsErrOf};
+ghost use Rattle.std.specs.Prelude.{MatchResult};
 ghost use Rattle.std.specs.Option.{ForSome};
 ghost use Rattle.agg_outside.specs.Counts.{Rose};
 ghost use Rattle.line_words.specs.LineCut.{next_cut};
 ghost use Rattle.agg_session.specs.Ends.{IsBlamed, IsWant, ended_by};
 ghost use Rattle.agg_session.specs.Running.{IsSession};
-ghost use Rattle.agg_session.specs.Served.{IsServed, IsTaken, IsAtEnd, Takes, TakesPart, ServesAll, ServesEnded, ServesPart, EndsLong};
+ghost use Rattle.agg_session.specs.Served.{IsServed, IsTaken, IsAtEnd, EndsLong};
+ghost use Rattle.agg_session.specs.Over.{TakesOver, TakesPartOver, ServesAllOver, ServesEndedOver, ServesPartOver};
 
 use crate::ends::LinkEnd;
 use crate::limits::Limits;
@@ -55,10 +57,10 @@ fn take_some<D: Disk, K: Keeper, I: Source, O: Sink>(
     ensures lines { IfOk result
         (λ count. served.new.lines + length served.new.cut.left ≤ served.old.lines + length served.old.cut.left +
         count) }
-    ensures answered { IfOk result (λ count. Takes D.Disk K.Keeper limits.now served.old served.new (O.bytes sink.old)
-        (O.bytes sink.new) (I.left source.old) (I.left source.new) count) }
-    ensures stopped { OnErr result (TakesPart D.Disk K.Keeper limits.now room served.old served.new (O.bytes sink.old)
-        (O.bytes sink.new) (I.left source.old) (I.left source.new)) }
+    ensures answered { IfOk result (λ count. TakesOver D.Disk K.Keeper I.Source O.Sink limits.now served.old served.new
+        source.old source.new sink.old sink.new count) }
+    ensures stopped { OnErr result (TakesPartOver D.Disk K.Keeper I.Source O.Sink limits.now room served.old served.new
+        source.old source.new sink.old sink.new) }
     ensures nothing { IsErrOf result LinkEnd.Source →
         (served.new ≡ served.old) × (O.bytes sink.new ≡ O.bytes sink.old) × (I.left source.new ≡ I.left source.old) }
     ensures source_stays { I.faults source.old ≤ I.faults source.new }
@@ -86,13 +88,14 @@ pub fn serve<D: Disk, K: Keeper, I: Source, O: Sink>(
     requires sound { IsServed K.Keeper limits.now served.old }
     requires none { (next_cut served.old.cut).0 ≡ None }
     ensures sound { result ≡ LinkEnd.Done → IsSession K.Keeper limits.now served.new.session }
-    ensures all { result ≡ LinkEnd.Done → ServesAll D.Disk K.Keeper limits.now served.old served.new (O.bytes sink.old)
-        (O.bytes sink.new) (I.left source.old) (I.left source.new) }
+    ensures all { result ≡ LinkEnd.Done → ServesAllOver D.Disk K.Keeper I.Source O.Sink limits.now served.old served.new
+        source.old source.new sink.old sink.new }
     ensures ended { (result ≡ LinkEnd.Source) ⊎ (result ≡ LinkEnd.Long) →
-        ServesEnded D.Disk K.Keeper limits.now served.old served.new (O.bytes sink.old) (O.bytes sink.new)
-        (I.left source.old) (I.left source.new) }
-    ensures part { (result ≡ LinkEnd.Done → ⊥) → ServesPart D.Disk K.Keeper limits.now served.old served.new
-        (O.bytes sink.old) (O.bytes sink.new) (I.left source.old) (I.left source.new) }
+        ServesEndedOver D.Disk K.Keeper I.Source O.Sink limits.now served.old served.new
+        source.old source.new sink.old sink.new }
+    ensures part { (result ≡ LinkEnd.Done → ⊥) →
+        ServesPartOver D.Disk K.Keeper I.Source O.Sink limits.now served.old served.new
+        source.old source.new sink.old sink.new }
     ensures long { result ≡ LinkEnd.Long → ForSome (I.left source.old) (λ input. EndsLong limits.now.bytes input
         (I.left source.new)) }
     ensures source_stays { I.faults source.old ≤ I.faults source.new }

@@ -1,7 +1,8 @@
 -- The step size as it is read, option by option.
 use Rattle.std.specs.Prelude.{ℕ, Bool, true, false, ◌&&◌, if◌then◌else◌, List, [], ◌∷◌, Option, Some, None}
 use Rattle.std.specs.Str.{bytes_eq}
-use Rattle.command_words.specs.CommandWords.{Setting, Behind, no_others, are_among, values_of, given_once, usual_size, step_value, step_option}
+use Rattle.command_words.specs.CommandWords.{Setting, Behind, no_others, are_among, values_of, given_once, usual_size}
+use Rattle.command_words.specs.CommandWords.{step_value, step_option}
 
 -- the step size after one more option, where none was given before
 abbrev pub step_given : Option ℕ → List ℕ → List ℕ → Option ℕ

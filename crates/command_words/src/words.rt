@@ -1,4 +1,5 @@
-ghost use Rattle.std.specs.Prelude.{◌≡◌, ◌↔◌, ◌&&◌, ◌≤◌, ◌^◌, ◌∷◌, nat_le, map, length, None, Some, IfOk, IsErrOf, IfSome, MatchOption};
+ghost use Rattle.std.specs.Prelude.{◌≡◌, ◌↔◌, ◌&&◌, ◌≤◌, ◌^◌, ◌∷◌, nat_le, map, length, None, Some, IfOk, IsErrOf};
+ghost use Rattle.std.specs.Prelude.{IfSome, MatchOption};
 ghost use Rattle.std.specs.String.{string_bytes};
 ghost use Rattle.std.specs.List.{position};
 ghost use Rattle.command_words.specs.CommandWords as asked;

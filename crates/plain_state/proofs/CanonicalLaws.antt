@@ -1,11 +1,11 @@
 -- Laws of the files of complete steps as they are read, over a list that grows.
-use Rattle.std.proofs.Common.{◌≡◌, ℕ, zero, suc, ◌+◌, ◌*◌, ◌≤◌, List, [], ◌∷◌, ◌++◌, All, refl, ap, arith}
-use Rattle.agg_model.specs.declared.entity.Entity.TheVariants.{Accounts}
+use Rattle.std.proofs.Common.{◌≡◌, ℕ, zero, suc, ◌+◌, ◌*◌, ◌≤◌, List, [], ◌∷◌, ◌++◌, All, refl, ap, sym, ◌∙◌, arith}
+use Rattle.agg_model.specs.declared.entity.Entity.{Entity}
 use Rattle.agg_model.specs.declared.change.Change.{Change}
 use Rattle.agg_model.specs.ChangeList.{ChangeList, grown}
 use Rattle.agg_model.proofs.ContentsLaws.{kv_contents-later}
-use Rattle.domain_core.specs.KvFile.{tagged_pairs, kv_tag}
-use Rattle.plain_state.specs.Canonical.{step_file, files_of_steps}
+use Rattle.domain_core.specs.KvFile.{TaggedPairs, tagged_pairs, kv_tag}
+use Rattle.plain_state.specs.Canonical.{step_file, files_of_steps, AreFilesOf}
 
 step_below : (n s next : ℕ) → suc n * s ≤ next → n * s ≤ next
 step_below n s next h = omega (arith, h)
@@ -18,11 +18,14 @@ module _ (list : ChangeList) (batch : List Change) (late : All (λ d. list.next 
       after : {t : ℕ} → list.next ≤ t → (n + 1) * list.size ≤ t
       after k = omega (arith, h)
 
-  step_file-later : (n : ℕ) → suc n * list.size ≤ list.next → step_file (grown list batch) n ≡ step_file list n
-  step_file-later n h =
-      ap (tagged_pairs (kv_tag Accounts list.size n (n + 1)))
-      (kv_contents-later list.size list.changes batch Accounts n (n + 1) (late_for n h))
+  step_file-later : (e : Entity) (n : ℕ) → suc n * list.size ≤ list.next → step_file (grown list batch) e n ≡ step_file list e n
+  step_file-later e n h =
+      ap (tagged_pairs (kv_tag e list.size n (n + 1)))
+      (kv_contents-later list.size list.changes batch e n (n + 1) (late_for n h))
 
-  pub files_of_steps-later : (n : ℕ) → n * list.size ≤ list.next → files_of_steps (grown list batch) n ≡ files_of_steps list n
-  files_of_steps-later zero h = refl
-  files_of_steps-later (suc n) h = λ i. files_of_steps-later n (step_below n list.size list.next h) i ++ step_file-later n h i ∷ []
+  files_of_steps-later : (e : Entity) (n : ℕ) → n * list.size ≤ list.next → files_of_steps (grown list batch) e n ≡ files_of_steps list e n
+  files_of_steps-later e zero h = refl
+  files_of_steps-later e (suc n) h = λ i. files_of_steps-later e n (step_below n list.size list.next h) i ++ step_file-later e n h i ∷ []
+
+  pub AreFilesOf-later : (n : ℕ) (files : List TaggedPairs) → n * list.size ≤ list.next → AreFilesOf list n files → AreFilesOf (grown list batch) n files
+  AreFilesOf-later n files h are = λ e filed. are e filed ∙ sym (files_of_steps-later e n h)

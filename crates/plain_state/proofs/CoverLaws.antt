@@ -21,6 +21,7 @@ use Rattle.agg_model.specs.Place.{place_of, is_before}
 use Rattle.agg_model.specs.Batch.{HasNoRepeats}
 use Rattle.agg_model.specs.Arranged.{arranged, Ascend}
 use Rattle.agg_model.proofs.ArrangedLaws.{arranged-Ascend}
+use Rattle.agg_core.specs.Names.{has_files}
 use Rattle.plain_state.specs.Rows.{id_of, row_of, rows_of, is_for, row_from}
 use Rattle.plain_state.specs.Reading.{is_uncovered, uncovered}
 use Rattle.plain_state.proofs.RowLaws.{id_before, is_before-id_of}
@@ -155,16 +156,16 @@ look from e k n (row ∷ rs) up =
 
 -- ---- the rows that no file covers
 
-needed-by : (first from tx : ℕ) (t : Bool) → (t ≡ true → from ≡ first) → nat_le from tx ≡ true → cond t (nat_le first tx) true ≡ true
-needed-by first from tx true at low = ap (λ m. nat_le m tx) (sym (at refl)) ∙ low
-needed-by first from tx false at low = refl
+needed-by : (first from tx : ℕ) (here t : Bool) → here ≡ true → (t ≡ true → from ≡ first) → nat_le from tx ≡ true → (here && cond t (nat_le first tx) true) ≡ true
+needed-by first from tx here true is at low = ap (λ b. b && nat_le first tx) is ∙ ap (λ m. nat_le m tx) (sym (at refl)) ∙ low
+needed-by first from tx here false is at low = ap (λ b. b && true) is
 
 -- a row that counts is one of them
-needed : (first from : ℕ) (e : Entity) (k : List ℕ) → ((entity_number e == 0) ≡ true → from ≡ first) → (row : Row) → counts from e k row ≡ true → is_uncovered first row ≡ true
+needed : (first from : ℕ) (e : Entity) (k : List ℕ) → (has_files e ≡ true → from ≡ first) → (row : Row) → counts from e k row ≡ true → is_uncovered e first row ≡ true
 needed first from e k at row is =
     let c = counts-true from e k row is in
-    needed-by first from row.id.tx (row.id.entity == 0)
-    (λ accounts. at (sym (ap (λ m. m == 0) c.entity) ∙ accounts)) (le-leb from row.id.tx c.low)
+    needed-by first from row.id.tx (row.id.entity == entity_number e) (has_files e)
+    (eq-eqb row.id.entity (entity_number e) c.entity) at (le-leb from row.id.tx c.low)
 
 filter-needed-by : (p : Row → Bool) (row : Row) (us vs : List Row) (u t : Bool) → p row ≡ t → (t ≡ true → u ≡ true) → filter p us ≡ vs → filter p (cond u (row ∷ us) us) ≡ cond t (row ∷ vs) vs
 filter-needed-by p row us vs true t is h rest = λ i. cond (is i) (row ∷ rest i) (rest i)
@@ -177,13 +178,13 @@ filter-needed p q h (row ∷ rs) =
     filter-needed-by p row (filter q rs) (filter p rs) (q row) (p row) refl (h row) (filter-needed p q h rs)
 
 -- two lists in order that have the same of them tell a look back the same
-pub same_look : (first from : ℕ) (e : Entity) (k : List ℕ) (n : ℕ) (rs qs : List Row) → ((entity_number e == 0) ≡ true → from ≡ first) → ascends rs ≡ true → ascends qs ≡ true → uncovered first rs ≡ uncovered first qs
+pub same_look : (first from : ℕ) (e : Entity) (k : List ℕ) (n : ℕ) (rs qs : List Row) → (has_files e ≡ true → from ≡ first) → ascends rs ≡ true → ascends qs ≡ true → uncovered e first rs ≡ uncovered e first qs
     → row_from from e k (rows.last_before (id_before e k n) rs) ≡ row_from from e k (rows.last_before (id_before e k n) qs)
 same_look first from e k n rs qs at up vp same =
     let counted : filter (counts from e k) rs ≡ filter (counts from e k) qs =
-    sym (filter-needed (counts from e k) (is_uncovered first) (needed first from e k at) rs)
+    sym (filter-needed (counts from e k) (is_uncovered e first) (needed first from e k at) rs)
     ∙ ap (filter (counts from e k)) same
-    ∙ filter-needed (counts from e k) (is_uncovered first) (needed first from e k at) qs in
+    ∙ filter-needed (counts from e k) (is_uncovered e first) (needed first from e k at) qs in
     look from e k n rs up ∙ ap (rows.last_before (id_before e k n)) counted ∙ sym (look from e k n qs vp)
 
 -- ---- the rows of a list are in order

@@ -22,7 +22,7 @@ use Rattle.agg_core.specs.Rows.{HasRows}
 use Rattle.agg_core.proofs.Kept.{exactly-later}
 use Rattle.agg_outside.specs.declared.disk.Disk.{Ghosts as DiskGhosts}
 use Rattle.agg_outside.specs.declared.keeper.Keeper.{Ghosts as KeeperGhosts}
-use Rattle.plain_state.proofs.CanonicalLaws.{files_of_steps-later}
+use Rattle.plain_state.proofs.CanonicalLaws.{AreFilesOf-later}
 use Rattle.plain_state.proofs.SettlingLaws.{whole_left}
 use Rattle.plain_state.proofs.GoingLaws.{held_small, held_due, has_rows}
 use Rattle.plain_state.proofs.RowLaws.{can_apply, row_at-above, AreBelow-raise, AreBelow-applied, held_for-append}
@@ -115,7 +115,7 @@ grows_after disk keeper old new list batch same_disk same_files holds fits none 
       content = content ∙ ap (λ n. n + content_of batch) holds.content ∙ sym (content_of-append list.changes batch);
       size = size ∙ holds.size;
       complete = rw same_files (le_trans holds.complete (next_of-above list.next list.next batch (omega arith) fits_list.ascend));
-      read = rw same_files (holds.read ∙ sym (files_of_steps-later list batch late (length old.files) holds.complete));
+      read = rw same_files (AreFilesOf-later list batch late (length old.files) old.files holds.complete holds.read);
       stand = λ f told. rw same_files (exactly-later list batch (held_names (length old.files)) f late (held_due list (length old.files) holds.valid holds.complete) (holds.stand f (ap disk.files (sym same_disk) ∙ told)));
     }
 

@@ -10,7 +10,8 @@ use Rattle.agg_model.specs.Entity.{entity_number}
 
 -- the change of a row of this entity
 abbrev pub change_in : Entity → Row → Option Change
-change_in e row = option_map (λ act. record { tx = row.id.tx; entity = e; key = row.id.key; act = act }) (act_in row.act row.value)
+change_in e row =
+    option_map (λ act. record { tx = row.id.tx; entity = e; key = row.id.key; act = act }) (act_in row.act row.value)
 
 -- the row, where it is one of this entity
 abbrev pub only_of : Entity → Option Row → Option Row

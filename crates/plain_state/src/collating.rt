@@ -1,5 +1,6 @@
 //! The changes of one step, found among the rows of a keeper.
-ghost use Rattle.std.specs.Prelude.{◌≡◌, ℕ, ◌+◌, ◌++◌, ◌<◌, ◌≤◌, ◌^◌, ◌&&◌, nat_le, nat_lt, List, Some, All, IfOk, IfErr, OnOk, IfSome};
+ghost use Rattle.std.specs.Prelude.{◌≡◌, ℕ, ◌+◌, ◌++◌, ◌<◌, ◌≤◌, ◌^◌, ◌&&◌, nat_le, nat_lt, List, Some, All};
+ghost use Rattle.std.specs.Prelude.{IfOk, IfErr, OnOk, IfSome};
 ghost use Rattle.std.specs.List.{filter};
 ghost use Rattle.agg_outside.specs.Counts.{HasCause};
 ghost use Rattle.agg_outside.specs.Rows.{first_from};
@@ -20,10 +21,11 @@ use std::alloc::Global;
 
 /// The changes of the entity in the step, sorted by key and number.
 ///
-/// A look at a row of an earlier step is followed by one from the first number of the step on, a look
-/// at a change by one behind it, and a look at a row of a later step by one behind the whole key: at
-/// most two looks for each key that the entity has, one for each change that is found, and one to
-/// begin with. The rows of other steps are never walked through.
+/// It looks into the keeper again and again, and each look finds one row, which says where the next
+/// look begins. Where the row is of an earlier step, that is the first number of this step, under the
+/// same key. Where it is of this step, it is taken, and the next look begins behind it. Where it is of
+/// a later step, this key has nothing more, and the next look begins at the next key. So a key costs at
+/// most two looks beside one for each change that is taken, however many rows other steps have.
 pub fn step_changes<K: Keeper>(
     keeper: &mut K,
     alloc: Global,
@@ -55,7 +57,8 @@ fn changes_within<K: Keeper>(
     entity: Entity,
     numbers: Range,
 ) -> Result<Batch, Stop>
-    ensures changes { (cs : List Change) → HasNoRepeats cs → All (λ c. c.tx < 2 ^ 63) cs → K.held keeper.old ≡ Some (held_for cs) →
+    ensures changes { (cs : List Change) → HasNoRepeats cs → All (λ c. c.tx < 2 ^ 63) cs →
+        K.held keeper.old ≡ Some (held_for cs) →
         IfOk result (λ changes. changes ≡ filter (is_within entity numbers.from numbers.to) (arranged cs)) }
     ensures held { K.held keeper.new ≡ K.held keeper.old }
     ensures cause { HasCause Stop.Keeper (K.faults keeper.old) (K.faults keeper.new) result }
@@ -105,7 +108,8 @@ fn next_row<K: Keeper>(
     entity: Entity,
     place: &RowId,
 ) -> Result<Option<Row>, Stop>
-    ensures row { IfSome (K.held keeper.old) (λ h. IfOk result (λ row. row ≡ only_of entity (first_from place.now h.rows))) }
+    ensures row { IfSome (K.held keeper.old) (λ h.
+        IfOk result (λ row. row ≡ only_of entity (first_from place.now h.rows))) }
     ensures entity { IfOk result (λ row. IfSome row (λ row. row.id.entity ≡ entity_number entity)) }
     ensures held { K.held keeper.new ≡ K.held keeper.old }
     ensures cause { HasCause Stop.Keeper (K.faults keeper.old) (K.faults keeper.new) result }

@@ -2,7 +2,6 @@
 #![tactic(auto)]
 
 mod collating;
-mod names;
 mod publishing;
 mod reading;
 mod settling;
@@ -11,7 +10,6 @@ mod store;
 mod view;
 
 pub use collating::step_changes;
-pub use names::step_name;
 pub use publishing::publish;
 pub use stop::Stop;
 pub use store::{Accepted, Store};

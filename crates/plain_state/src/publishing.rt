@@ -17,8 +17,10 @@ pub fn publish<D: Disk>(
     name: &FileName,
     bytes: &[u8],
 ) -> Result<(), DiskError>
-    ensures ok { IfSome (D.files disk.old) (λ f. OnOk result (D.files disk.new ≡ Some (map.insert (map.remove f (temporary_of name.now)) (spelled name.now) bytes.now))) }
-    ensures left { IfSome (D.files disk.old) (λ f. IsSomeAnd (D.files disk.new) (LeftBy (temporary_of name.now) (spelled name.now) bytes.now f)) }
+    ensures ok { IfSome (D.files disk.old) (λ f. OnOk result (D.files disk.new ≡
+        Some (map.insert (map.remove f (temporary_of name.now)) (spelled name.now) bytes.now))) }
+    ensures left { IfSome (D.files disk.old) (λ f.
+        IsSomeAnd (D.files disk.new) (LeftBy (temporary_of name.now) (spelled name.now) bytes.now f)) }
     ensures silent { IfNone (D.files disk.old) (D.files disk.new ≡ None) }
     ensures cause { HasCause DiskError.Failed (D.faults disk.old) (D.faults disk.new) result }
 {
@@ -45,8 +47,10 @@ fn write_and_rename<D: Disk>(
     bytes: &[u8],
 ) -> Result<(), DiskError>
     requires { name.now ≢ temporary.now }
-    ensures ok { IfSome (D.files disk.old) (λ f. OnOk result (D.files disk.new ≡ Some (map.insert (map.remove f temporary.now) name.now bytes.now))) }
-    ensures left { IfSome (D.files disk.old) (λ f. IsSomeAnd (D.files disk.new) (LeftBy temporary.now name.now bytes.now f)) }
+    ensures ok { IfSome (D.files disk.old) (λ f. OnOk result (D.files disk.new ≡
+        Some (map.insert (map.remove f temporary.now) name.now bytes.now))) }
+    ensures left { IfSome (D.files disk.old) (λ f.
+        IsSomeAnd (D.files disk.new) (LeftBy temporary.now name.now bytes.now f)) }
     ensures silent { IfNone (D.files disk.old) (D.files disk.new ≡ None) }
     ensures cause { HasCause DiskError.Failed (D.faults disk.old) (D.faults disk.new) result }
 {

@@ -7,10 +7,10 @@ ghost use Rattle.plain_state.specs.Rows.{is_for, value_of_row, row_from};
 ghost use Rattle.plain_state.specs.Reading.{files_read, Reads};
 ghost use Rattle.plain_state.specs.Store.{HasView, Holds, Goes, HasCauses};
 
-use crate::names::has_files;
 use crate::stop::Stop;
 use crate::store::Store;
 use crate::view::View;
+use agg_core::has_files;
 use agg_model::Entity;
 use agg_outside::{Bytes, Disk, Keeper, Memory, Row, RowId, Steps};
 use domain_core::{KvFile, newest_value};
@@ -30,11 +30,13 @@ impl<D: Disk, K: Keeper> Store<D, K> {
         key: &[u8],
     ) -> Result<Option<Bytes>, Stop>
         requires { HasView self.old view.now }
-        ensures value { (list : ChangeList) → Reads K.Keeper view.now self.old list → IfOk result (λ value. value ≡ value_at list.changes entity key.now view.now.next) }
+        ensures value { (list : ChangeList) → Reads K.Keeper view.now self.old list →
+            IfOk result (λ value. value ≡ value_at list.changes entity key.now view.now.next) }
         ensures same { self.new ≡ record self.old { keeper = self.new.keeper } }
         ensures rows { K.held self.new.keeper ≡ K.held self.old.keeper }
         ensures only { IfErr result (λ stop. stop ≡ Stop.Disk → ⊥) }
-        ensures holds { (list : ChangeList) → Holds D.Disk K.Keeper self.old list → Holds D.Disk K.Keeper self.new list }
+        ensures holds { (list : ChangeList) → Holds D.Disk K.Keeper self.old list →
+            Holds D.Disk K.Keeper self.new list }
         ensures goes { Goes D.Disk K.Keeper self.old self.new }
         ensures causes { HasCauses D.Disk K.Keeper self.old self.new result }
     {

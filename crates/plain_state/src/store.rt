@@ -8,7 +8,7 @@ ghost use Rattle.plain_state.specs.Store.{IsStore, Holds, Keeps, Commits, Goes, 
 use crate::stop::Stop;
 use crate::view::View;
 use agg_model::{Batch, Change, content, merge_repeats};
-use agg_outside::{Bytes, Disk, Keeper, ListOf, Memory, Row, RowId, RowWrite};
+use agg_outside::{Disk, Keeper, ListOf, Memory, Row, RowId, RowWrite};
 use domain_core::KvFile;
 use std::alloc::Global;
 
@@ -99,7 +99,8 @@ impl<D: Disk, K: Keeper> Store<D, K> {
         ensures only { IfErr result (λ stop. stop ≡ Stop.Disk → ⊥) }
         // After an error nothing is added.
         ensures err { OnErr result (self.new ≡ record self.old { keeper = self.new.keeper }) }
-        ensures holds { (list : ChangeList) → Holds D.Disk K.Keeper self.old list → OnErr result (Holds D.Disk K.Keeper self.new list) }
+        ensures holds { (list : ChangeList) → Holds D.Disk K.Keeper self.old list →
+            OnErr result (Holds D.Disk K.Keeper self.new list) }
         ensures goes { Goes D.Disk K.Keeper self.old self.new }
         ensures causes { HasCauses D.Disk K.Keeper self.old self.new result }
     {
@@ -111,14 +112,13 @@ impl<D: Disk, K: Keeper> Store<D, K> {
         if self.content + more > most {
             return Ok(None);
         }
-        let writes = writes_of(alloc, &batch)?;
+        let changes = batch.len() as u64;
+        let next = next_of(self.next, &batch);
+        let writes = writes_of(alloc, batch)?;
         self.keeper.apply(alloc, writes.as_slice())?;
-        self.next = next_of(self.next, &batch);
+        self.next = next;
         self.content += more;
-        Ok(Some(Accepted {
-            changes: batch.len() as u64,
-            next: self.next,
-        }))
+        Ok(Some(Accepted { changes, next }))
     }
 }
 
@@ -143,30 +143,37 @@ fn next_of(next: u64, changes: &Batch) -> u64
     }
 }
 
+// The row of a change, which takes the change's key and value without a copy.
 #[tactic(auto, unfolding(crate::specs::Rows::row_of))]
-fn row_of(alloc: Global, change: &Change) -> Result<Row, Memory>
-    ensures { IfOk result (λ row. row ≡ row_of change.now) }
+fn row_of(alloc: Global, change: Change) -> Row
+    ensures { result ≡ row_of change }
 {
-    Ok(Row {
+    let Change {
+        tx,
+        entity,
+        key,
+        act,
+    } = change;
+    Row {
         id: RowId {
-            entity: change.entity.number(),
-            key: change.key.copy(alloc)?,
-            tx: change.tx,
+            entity: entity.number(),
+            key,
+            tx,
             born: BORN,
         },
         killed: 0,
-        act: change.act.number(),
-        value: Bytes::of(alloc, change.act.value())?,
-    })
+        act: act.number(),
+        value: act.into_value(alloc),
+    }
 }
 
-// One row to insert for each change.
-fn writes_of(alloc: Global, changes: &Batch) -> Result<Vec<RowWrite>, Memory>
-    ensures { IfOk result (λ writes. writes.items ≡ writes_of changes.now) }
+// One row to insert for each change. The changes are gone once the keeper is at work.
+fn writes_of(alloc: Global, changes: Batch) -> Result<Vec<RowWrite>, Memory>
+    ensures { IfOk result (λ writes. writes.items ≡ writes_of changes) }
 {
-    let mut writes = Vec::new(alloc);
-    for change in changes.as_slice() {
-        writes.push(RowWrite::Insert(row_of(alloc, change)?))?;
+    let mut writes = Vec::with_capacity(alloc, changes.len())?;
+    for change in changes.into_vec() {
+        writes.push(RowWrite::Insert(row_of(alloc, change)))?;
     }
     Ok(writes)
 }

@@ -1,10 +1,17 @@
-use Rattle.line_words.specs.LineCut.{Piece, rest_cut}
-use Rattle.plain_state.proofs.SettlingLaws.{on_err}
-use Rattle.agg_session.specs.Answer.{effect}
-use Rattle.agg_session.proofs.LineLaws.{ends_before}
+use Rattle.std.proofs.Common.{Option, subst}
+use Rattle.line_words.specs.LineCut.{Piece}
+use Rattle.agg_session.specs.Running.{IsReplied}
 use Rattle.agg_session.proofs.served.last_reply.Goals as goal
 
-pub returns-in_err-print-in-Long-clause-err : goal.returns-in_err-print-in-Long-clause-err
-returns-in_err-print-in-Long-clause-err g c = λ s stands.
-    on_err c.from_residual-in_err-print-in-Long.result _
-    (ends_before g.D.Disk g.K.Keeper c.args.session.now.store s.list (rest_cut c.args.cut.now) (λ (p : Piece). (effect c.args.limits.now c.args.number p s).state.list) stands.list)
+pub returns-clause-replied : goal.returns-clause-replied
+returns-clause-replied g c =
+    let said = c.reply_to.ensures in
+    subst (λ (piece : Option Piece). IsReplied g.D.Disk g.K.Keeper c.args.limits.now c.args.number piece c.args.session.now c.reply_to.new.session c.reply_to.result) c.rest.ensures.cut
+    (record {
+      found = said.found;
+      none = said.none;
+      exact = said.exact;
+      err_found = said.err_found;
+      err = said.err;
+      devices = said.devices;
+    })

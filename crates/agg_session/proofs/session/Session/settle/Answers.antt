@@ -1,7 +1,7 @@
 use Rattle.std.proofs.Common.{refl}
 use Rattle.plain_state.proofs.StoreLaws.{kept}
 use Rattle.plain_state.proofs.SettlingLaws.{on_err}
-use Rattle.agg_session.proofs.SessionLaws.{settled, all_settled, store_sound, passed_on}
+use Rattle.agg_session.proofs.SessionLaws.{settled, all_settled, store_sound}
 use Rattle.agg_session.proofs.session.Session.settle.Goals as goal
 
 pub returns-in_err-settle-clause-sound : goal.returns-in_err-settle-clause-sound
