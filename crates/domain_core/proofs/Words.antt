@@ -8,6 +8,8 @@ use Rattle.agg_model.specs.declared.contents.Pair.{Pair}
 use Rattle.agg_model.specs.Pairs.{IsBelow, KeysAscend, pair_keys, word_in}
 use Rattle.word_file.specs.Paired as keys
 use Rattle.btree_index.specs.Keys as places
+use Rattle.hashed_words.proofs.Values.{two_on}
+use Rattle.hashed_words.proofs.PairedLaws.{KeysAscend-at}
 use Rattle.domain_core.specs.KvFile.{words_of, pairs_in, key_at, IsFirstNotBelow}
 
 pub pairs_in-words_of : (ps : List Pair) → pairs_in (words_of ps) ≡ ps
@@ -29,9 +31,6 @@ key_count-words_of ps = omega (arith, length-words_of ps)
 pub IsPaired-words_of : (ps : List Pair) → keys.IsPaired (words_of ps)
 IsPaired-words_of ps = omega (arith, length-words_of ps)
 
-two_on : (a b : List ℕ) (ws : List (List ℕ)) (j m : ℕ) → j ≡ suc (suc m) → get_or (a ∷ b ∷ ws) j [] ≡ get_or ws m []
-two_on a b ws j m e = ap (λ j. get_or (a ∷ b ∷ ws) j []) e
-
 pub key-words_of : (ps : List Pair) (place j : ℕ) → j ≡ 2 * place → get_or (words_of ps) j [] ≡ key_at ps place
 key-words_of [] place j e = refl
 key-words_of (p ∷ ps) zero j e = ap (λ j. get_or (words_of (p ∷ ps)) j []) e
@@ -50,12 +49,6 @@ key_at-get_or (p ∷ ps) zero d h = refl
 key_at-get_or (p ∷ ps) (suc place) d h = key_at-get_or ps place d (omega arith)
 
 -- ---- order
-
-pub KeysAscend-at : (ks : List (List ℕ)) → KeysAscend ks → (p q : ℕ) → p < q → q < length ks → IsBelow (get_or ks p []) (get_or ks q [])
-KeysAscend-at [] up p q h below = absurd (omega arith)
-KeysAscend-at (k ∷ ks) up p zero h below = absurd (omega arith)
-KeysAscend-at (k ∷ ks) up zero (suc q) h below = up.0 q [] (omega arith)
-KeysAscend-at (k ∷ ks) up (suc p) (suc q) h below = KeysAscend-at ks up.1 p q (omega arith) (omega arith)
 
 pub length-pair_keys : (ps : List Pair) → length (pair_keys ps) ≡ length ps
 length-pair_keys [] = refl

@@ -18,7 +18,8 @@ use word_file::{Tag, WordFile, WordWriter};
 
 fn push_pair(writer: &mut WordWriter, pair: &Pair) -> Result<(), Memory>
     requires { IsPair pair.now }
-    ensures { OnOk result (writer.new ≡ tagged writer.old.tag (writer.old.words ++ pair.now.key ∷ pair.now.value ∷ [])) }
+    ensures { OnOk result
+        (writer.new ≡ tagged writer.old.tag (writer.old.words ++ pair.now.key ∷ pair.now.value ∷ [])) }
 {
     writer.push(pair.key.as_slice())?;
     writer.push(pair.value.as_slice())?;
@@ -85,7 +86,7 @@ pub fn build_step(
     requires { step < 4096 }
     ensures { (list : ChangeList) → IsChangeList list → list.size ≡ size →
         changes.now ≡ changes_over size list.changes entity step (step + 1) →
-        IfOk result (λ file. file ≡ tagged_pairs (kv_tag entity size step (step + 1)) (kv_contents size list.changes entity step (step + 1))) }
+        IfOk result (λ file. file ≡ kv_file_of size list.changes entity step (step + 1)) }
 {
     let pairs = step_pairs(alloc, step, changes)?;
     if !are_pairs(&pairs) {

@@ -69,7 +69,8 @@ impl KvFile {
         // What is spelled so is refused for want of memory alone.
         ensures only { (file : TaggedPairs) → AreFilesOf tag kv bt kvi file → IfErr result (λ e. e ≡ NoMemory) }
         // Where the first of the three that is wrong is wrong first.
-        ensures exact { (kind : FileKind) (at : ℕ) → result ≡ Err (Bad kind at) → kv_fault tag kv bt kvi ≡ Some (Bad kind at) }
+        ensures exact { (kind : FileKind) (at : ℕ) → result ≡ Err (Bad kind at) →
+            kv_fault tag kv bt kvi ≡ Some (Bad kind at) }
     {
         let words = match open_kv(tag, kv) {
             Ok(words) => words,

@@ -1,3 +1,5 @@
 pub mod Walks
 pub mod Values
 pub mod Openings
+pub mod PairedLaws
+pub mod KeyTests

@@ -7,7 +7,8 @@ use Rattle.word_file.specs.Paired.{KeysDiffer, key_count, key_at, key_offset}
 use Rattle.recsplit_index.specs.Keys.{IsKeyAt, IsNoKey}
 use Rattle.hashed_words.specs.Hashed.{value_at, value_of, IsPairAt}
 
-two_on : (a b : List ℕ) (ws : List (List ℕ)) (j m : ℕ) → j ≡ suc (suc m) → get_or (a ∷ b ∷ ws) j [] ≡ get_or ws m []
+-- a place behind the first pair
+pub two_on : (a b : List ℕ) (ws : List (List ℕ)) (j m : ℕ) → j ≡ suc (suc m) → get_or (a ∷ b ∷ ws) j [] ≡ get_or ws m []
 two_on a b ws j m e = ap (λ j. get_or (a ∷ b ∷ ws) j []) e
 
 -- a key that differs

@@ -62,7 +62,8 @@ impl HashedWords {
         // What is spelled so is refused for want of memory alone.
         ensures only { accessor ≡ accessor_bytes words.words → IfErr result (λ e. e ≡ NoMemory) }
         // Where the bytes differ first.
-        ensures exact { (at : ℕ) → result ≡ Err (Bad kind at) → first_difference accessor (accessor_bytes words.words) ≡ Some at }
+        ensures exact { (at : ℕ) → result ≡ Err (Bad kind at) →
+            first_difference accessor (accessor_bytes words.words) ≡ Some at }
         // No other kind is named.
         ensures kind { (other : FileKind) (at : ℕ) → result ≡ Err (Bad other at) → other ≡ kind }
     {
@@ -97,7 +98,8 @@ impl HashedWords {
         ensures found { IfSome result (λ at. IsKeyAt self.now.words key.now at) }
         ensures none { IfNone result (IsNoKey self.now.words key.now) }
         ensures split_steps { form_of self.now.words ≡ 1 → steps.new ≤ steps.old + 1 }
-        ensures plain_steps { (digits : ℕ) → key_count self.now.words < 2 ^ digits → steps.new ≤ steps.old + (digits + 1) }
+        ensures plain_steps { (digits : ℕ) → key_count self.now.words < 2 ^ digits →
+            steps.new ≤ steps.old + (digits + 1) }
     {
         self.index.find(&self.words, key, steps)
     }
@@ -106,7 +108,8 @@ impl HashedWords {
     pub fn value<L: Ledger>(&self, key: &[u8], steps: &mut Steps<L>) -> Option<&[u8]>
         ensures value { option_copied result ≡ value_of self.now.words key.now }
         ensures split_steps { form_of self.now.words ≡ 1 → steps.new ≤ steps.old + 2 }
-        ensures plain_steps { (digits : ℕ) → key_count self.now.words < 2 ^ digits → steps.new ≤ steps.old + (digits + 2) }
+        ensures plain_steps { (digits : ℕ) → key_count self.now.words < 2 ^ digits →
+            steps.new ≤ steps.old + (digits + 2) }
     {
         let at = self.find(key, steps)?;
         Some(value_behind(&self.words, at, steps))

@@ -60,7 +60,7 @@ is_key_word-from tag word h =
     (and_from _ _ (le-leb (length word) 72 h.within) (is_inside-from tag (number_in word) h.inside))
 
 pub is_earlier-true : (word other : List ℕ) → is_earlier word other ≡ true → IsEarlier (before_in word []) (before_in other [])
-unfolding is_earlier
+unfolding is_earlier order_of
 is_earlier-true word other h = is_lt-true _ h
 
 -- ---- one pair
@@ -130,7 +130,7 @@ module _ (tag : Tag) where
   }
 
   earlier_stands : (b c : Before) → b.tx < 2 ^ 64 → c.tx < 2 ^ 64 → IsEarlier b c → stands_behind (Some (key_word b.key b.tx)) (key_word c.key c.tx) ≡ true
-  unfolding stands_behind is_earlier
+  unfolding stands_behind is_earlier order_of
   earlier_stands b c one other less =
       let keys = key_in-key_word b.key b.tx in
       let numbers = number_in-key_word b.key b.tx one in

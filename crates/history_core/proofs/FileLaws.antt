@@ -20,7 +20,7 @@ use Rattle.agg_model.specs.ChangeList.{ChangeList, IsChangeList, value_at}
 use Rattle.agg_model.specs.Contents.{is_within, changes_over, word_of, before_of, v_contents}
 use Rattle.agg_model.proofs.ArrangedLaws.{arranged-Ascend}
 use Rattle.agg_model.proofs.ContentsLaws.{IsWithin, changes_over-All, changes_over-keep, changes_over-arranged, value_at-fits, v_contents-later}
-use Rattle.history_core.specs.Befores.{order_of, IsEarlier, IsBefore, AreBefores}
+use Rattle.history_core.specs.Befores.{IsEarlier, IsBefore, AreBefores}
 use Rattle.history_core.specs.VFile.{TaggedBefores, tagged_befores, v_tag, v_spelling, vi_spelling, v_file_bytes, vi_file_bytes}
 
 Ascend-by : (p : Change → Bool) (c : Change) (cs : List Change) (t : Bool) → All (λ d. IsTrue (is_before (place_of c) (place_of d))) (filter p cs) → Ascend (filter p cs) → Ascend (cond t (c ∷ filter p cs) (filter p cs))
@@ -40,8 +40,8 @@ less_rest Equal Greater e h = cc
 less_rest Greater s e h = cc
 
 -- of one entity the key and the number decide
-before_earlier : (c d : Change) → entity_number c.entity ≡ entity_number d.entity → is_before (place_of c) (place_of d) ≡ true → order_of c.key c.tx d.key d.tx ≡ Less
-unfolding is_before place_of place_cmp order_of
+before_earlier : (c d : Change) → entity_number c.entity ≡ entity_number d.entity → is_before (place_of c) (place_of d) ≡ true → ordering_then (slice_cmp nat_cmp c.key d.key) (nat_cmp c.tx d.tx) ≡ Less
+unfolding is_before place_of place_cmp
 before_earlier c d same h =
     less_rest (nat_cmp (entity_number c.entity) (entity_number d.entity)) (ordering_then (slice_cmp nat_cmp c.key d.key) (nat_cmp c.tx d.tx))
     (ap (nat_cmp (entity_number c.entity)) (sym same) ∙ tied_itself nat_cmp_total (entity_number c.entity)) h

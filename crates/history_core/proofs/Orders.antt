@@ -2,15 +2,19 @@
 use Rattle.std.proofs.Common.{◌≡◌, ℕ, ◌<◌, List, [], length, get_or, sym, ◌∙◌, inl, inr}
 use Rattle.std.specs.Prelude.{AllPairs}
 use Rattle.std.specs.Cmp.{IsTotalOrder, then_total, on_total, nat_cmp_total, tied_itself}
-use Rattle.std.specs.Cmp.Lexicographic.{nat_list_cmp_total}
+use Rattle.std.specs.Cmp.Lexicographic.{slice_cmp, nat_list_cmp_total}
+use Rattle.std.specs.Ordering.{nat_cmp, ordering_then}
 use Rattle.std.specs.declared.cmp.Ordering.{Ordering}
 use Rattle.std.specs.declared.cmp.Ordering.TheVariants.{Less, Equal}
 use Rattle.std.proofs.lemmas.Bool.{cases_order}
 use Rattle.agg_model.specs.declared.contents.Before.{Before}
-use Rattle.history_core.specs.Befores.{order_of, IsEarlier}
+use Rattle.history_core.specs.Befores.{IsEarlier}
 
-before_order : IsTotalOrder (λ (b c : Before). order_of b.key b.tx c.key c.tx)
-unfolding order_of
+-- two keys at numbers
+abbrev stand : List ℕ → ℕ → List ℕ → ℕ → Ordering
+stand key tx other number = ordering_then (slice_cmp nat_cmp key other) (nat_cmp tx number)
+
+before_order : IsTotalOrder (λ (b c : Before). stand b.key b.tx c.key c.tx)
 before_order =
     then_total (on_total (λ (b : Before). b.key) nat_list_cmp_total) (on_total (λ (b : Before). b.tx) nat_cmp_total)
 
@@ -21,10 +25,10 @@ no_less : {r : Ordering} → r ≡ Equal → r ≡ Less → ⊥
 no_less e f = cc
 
 -- no key at a number is before itself
-pub not_itself : (key other : List ℕ) (tx number : ℕ) → key ≡ other → tx ≡ number → order_of key tx other number ≡ Less → ⊥
+pub not_itself : (key other : List ℕ) (tx number : ℕ) → key ≡ other → tx ≡ number → stand key tx other number ≡ Less → ⊥
 not_itself key other tx number keys numbers less =
     let b : Before = record { key = key; tx = tx; value = [] } in
-    let same : order_of key tx key tx ≡ order_of key tx other number = λ i. order_of key tx (keys i) (numbers i) in
+    let same : stand key tx key tx ≡ stand key tx other number = λ i. stand key tx (keys i) (numbers i) in
     no_less (tied_itself before_order b) (same ∙ less)
 
 -- those at two places are different

@@ -6,6 +6,7 @@ use Rattle.agg_model.specs.declared.contents.Before.{Before}
 use Rattle.word_file.specs.declared.tag.Tag.{Tag}
 use Rattle.word_file.specs.Spelling.{AreShort, IsPlace}
 use Rattle.word_file.specs.Paired.{IsPaired, KeysDiffer, key_count, key_at}
+use Rattle.hashed_words.proofs.Values.{two_on}
 use Rattle.history_core.specs.Befores.{IsBefore, AreBefores}
 use Rattle.history_core.specs.KeyWord.{key_word, key_in, number_in, before_in, words_of, befores_in}
 use Rattle.history_core.specs.VFile.{IsRowAt}
@@ -25,9 +26,6 @@ key_count-words_of bs = omega (arith, length-words_of bs)
 
 pub IsPaired-words_of : (bs : List Before) → IsPaired (words_of bs)
 IsPaired-words_of bs = omega (arith, length-words_of bs)
-
-two_on : (a b : List ℕ) (ws : List (List ℕ)) (j m : ℕ) → j ≡ suc (suc m) → get_or (a ∷ b ∷ ws) j [] ≡ get_or ws m []
-two_on a b ws j m e = ap (λ j. get_or (a ∷ b ∷ ws) j []) e
 
 pub key-words_of : (bs : List Before) (place j : ℕ) (d : Before) → j ≡ 2 * place → place < length bs
     → get_or (words_of bs) j [] ≡ key_word (get_or bs place d).key (get_or bs place d).tx

@@ -1,11 +1,11 @@
 -- Which values before changes a `.v` file may have, in which order, and what a look for one finds.
-use Rattle.std.specs.Prelude.{◌≡◌, ℕ, ◌*◌, ◌^◌, ◌<◌, ◌≤◌, ◌==◌, ◌&&◌, nat_eq, List, [], ◌∷◌, length, All, AllPairs, if◌then◌else◌, Option, Some, None}
+use Rattle.std.specs.Prelude.{ℕ, ◌*◌, ◌^◌, ◌<◌, ◌≤◌, List, length, All, AllPairs, Option}
 use Rattle.std.specs.Ordering.{nat_cmp, ordering_then}
-use Rattle.std.specs.Cmp.Lexicographic.{pointwise, slice_cmp}
+use Rattle.std.specs.Cmp.Lexicographic.{slice_cmp}
 use Rattle.std.specs.declared.cmp.Ordering.{Ordering}
-use Rattle.std.specs.declared.cmp.Ordering.TheVariants.{Less}
 use Rattle.agg_model.specs.declared.contents.Before.{Before}
 use Rattle.agg_model.specs.declared.limits.TheConstants.{KEY_MOST, VALUE_MOST}
+use Rattle.content_laws.specs.Looks as looks
 use Rattle.word_file.specs.declared.tag.Tag.{Tag}
 
 -- by the bytes of the key, and then by the number
@@ -13,7 +13,7 @@ unfoldable pub order_of : List ℕ → ℕ → List ℕ → ℕ → Ordering
 order_of key tx other number = ordering_then (slice_cmp nat_cmp key other) (nat_cmp tx number)
 
 abbrev pub IsEarlier : Before → Before → Type 0
-IsEarlier b c = order_of b.key b.tx c.key c.tx ≡ Less
+IsEarlier = looks.IsEarlier
 
 -- the number is in the steps of the tag
 pub record IsInside (tag : Tag) (tx : ℕ) : Type 0 where
@@ -42,5 +42,4 @@ pub record AreBefores (tag : Tag) (befores : List Before) : Type 0 where
 
 -- the value before the change of exactly this key at exactly this number
 abbrev pub value_before : List Before → List ℕ → ℕ → Option (List ℕ)
-value_before [] key tx = None
-value_before (b ∷ bs) key tx = if pointwise nat_eq b.key key && b.tx == tx then Some b.value else value_before bs key tx
+value_before = looks.before_in

@@ -39,6 +39,7 @@ fn all_fit(tag: Tag, rows: &[Before]) -> bool
 }
 
 /// Whether the one at a place comes before the next.
+#[tactic(auto, unfolding(crate::specs::Befores::order_of))]
 fn goes_up(rows: &[Before], place: usize) -> bool
     requires { place + 1 < length rows.now }
     ensures { IsTrue result ↔ IsEarlier (before_at rows.now place) (before_at rows.now (place + 1)) }

@@ -12,7 +12,7 @@ use Rattle.word_file.specs.declared.tag.Tag.{Tag}
 use Rattle.hashed_words.specs.PlainKeys.{is_plain_key}
 use Rattle.inverted_index.specs.EfFile.{IsTimes, AreLists, list_keys, number_count}
 use Rattle.inverted_index.specs.EfRules.{are_numbers, count_list, are_lists_from, are_lists}
-use Rattle.inverted_index.proofs.KeyTests.{AllAbove, above_none, plain-short, plain-above, plain-test}
+use Rattle.hashed_words.proofs.KeyTests.{AllAbove, above_none, plain-short, plain-above, plain-test}
 use Rattle.inverted_index.proofs.TextLaws.{are_numbers-true, are_numbers-from}
 use Rattle.inverted_index.proofs.RuleLaws.{IsCounted, counted-by, count-by}
 

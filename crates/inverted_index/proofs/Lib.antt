@@ -1,7 +1,5 @@
 pub mod Climbs
-pub mod PairedLaws
 pub mod TextLaws
-pub mod KeyTests
 pub mod ListWords
 pub mod RuleLaws
 pub mod ContentLaws

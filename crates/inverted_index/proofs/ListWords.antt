@@ -14,9 +14,9 @@ use Rattle.word_file.specs.declared.tag.Tag.{Tag}
 use Rattle.word_file.specs.Spelling.{TaggedWords, AreShort}
 use Rattle.word_file.specs.Paired as file
 use Rattle.hashed_words.specs.Hashed.{value_of, value_at}
-use Rattle.inverted_index.specs.PairedWords.{paired_words, keys_of, values_of}
+use Rattle.hashed_words.specs.PairedWords.{paired_words, keys_of, values_of}
 use Rattle.inverted_index.specs.EfFile.{IsTimes, AreLists, AreWordsOf, IsHeld, IsTextOf, TaggedLists, tagged_lists, list_keys, number_count, pair_of, words_of, lists_in, numbers_in, numbers_of}
-use Rattle.inverted_index.proofs.PairedLaws.{key_count-paired_words, IsPaired-paired_words, KeysDiffer-paired_words, key_at-paired_words, value_at-paired_words}
+use Rattle.hashed_words.proofs.PairedLaws.{key_count-paired_words, IsPaired-paired_words, KeysDiffer-paired_words, key_at-paired_words, value_at-paired_words}
 use Rattle.inverted_index.proofs.TextLaws.{listable, text_of_numbers, numbers_in-spelling}
 
 pub keys-pairs : (ts : List Times) → keys_of (map pair_of ts) ≡ list_keys ts

@@ -12,7 +12,7 @@ use Rattle.hashed_words.specs.Rules.{behind_value, bad_from, bad_place}
 use Rattle.hashed_words.specs.PlainKeys.{is_plain_key}
 use Rattle.inverted_index.specs.EfFile.{IsTimes, AreLists, AreWordsOf, list_keys, number_count, words_of, lists_in, numbers_in}
 use Rattle.inverted_index.specs.EfRules.{is_text, count_text, ef_rules}
-use Rattle.inverted_index.proofs.KeyTests.{AllAbove, above_none, plain-short, plain-above, plain-test}
+use Rattle.hashed_words.proofs.KeyTests.{AllAbove, above_none, plain-short, plain-above, plain-test}
 use Rattle.inverted_index.proofs.TextLaws.{listable, numbers_in-spelling, is_text-true, is_text-spelling}
 use Rattle.inverted_index.proofs.ListWords.{IsFew, few-each}
 

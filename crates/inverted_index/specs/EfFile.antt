@@ -1,9 +1,8 @@
 -- An `.ef` file as its readers see it, the words that it is made of, and its bytes.
-use Rattle.std.specs.Prelude.{◌≡◌, ℕ, ◌*◌, ◌≤◌, ◌<◌, ◌^◌, nat_eq, nat_le, List, [], ◌∷◌, length, map, All, find, if◌then◌else◌, Option, Some, None}
+use Rattle.std.specs.Prelude.{◌≡◌, ℕ, ◌*◌, ◌≤◌, ◌<◌, ◌^◌, nat_le, List, [], ◌∷◌, length, map, All, find, Option}
 use Rattle.std.specs.Option.{option_and_then}
 use Rattle.std.specs.List.{sum_by}
 use Rattle.std.specs.List.Sorted.{IsStrictlyIncreasing}
-use Rattle.std.specs.Cmp.Lexicographic.{pointwise}
 use Rattle.agg_model.specs.declared.entity.Entity.{Entity}
 use Rattle.agg_model.specs.declared.change.Change.{Change}
 use Rattle.agg_model.specs.declared.contents.Times.{Times}
@@ -11,13 +10,14 @@ use Rattle.agg_model.specs.declared.limits.TheConstants.{KEY_MOST}
 use Rattle.agg_model.specs.Entity.{entity_number}
 use Rattle.agg_model.specs.Contents.{ef_contents}
 use Rattle.agg_model.specs.Pairs.{KeysAscend}
+use Rattle.content_laws.specs.Looks as looks
 use Rattle.elias_fano.specs.Spelling as list
 use Rattle.elias_fano.specs.Reading.{items_of, parts_in}
 use Rattle.word_file.specs.declared.tag.Tag.{Tag}
 use Rattle.word_file.specs.Spelling as file
 use Rattle.word_file.specs.Reading.{tagged}
 use Rattle.hashed_words.specs.Hashed.{accessor_bytes}
-use Rattle.inverted_index.specs.PairedWords.{paired_words}
+use Rattle.hashed_words.specs.PairedWords.{paired_words}
 
 -- what a file is of, and the numbers of its keys
 pub record TaggedLists : Type 0 where
@@ -120,8 +120,7 @@ efi_file_bytes size changes e from to = efi_spelling (ef_file size changes e fro
 
 -- the numbers of the first list with the key
 abbrev pub numbers_of : List Times → List ℕ → Option (List ℕ)
-numbers_of [] k = None
-numbers_of (t ∷ ts) k = if pointwise nat_eq t.key k then Some t.items else numbers_of ts k
+numbers_of = looks.numbers_in
 
 -- the first of them that isn't below n
 abbrev pub first_from : List Times → List ℕ → ℕ → Option ℕ

@@ -1,4 +1,3 @@
-pub mod PairedWords
 pub mod Climbing
 pub mod EfFile
 pub mod EfRules

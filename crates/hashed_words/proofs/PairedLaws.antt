@@ -4,7 +4,8 @@ use Rattle.agg_model.specs.Pairs.{IsBelow, KeysAscend}
 use Rattle.word_file.specs.Paired as file
 use Rattle.word_file.proofs.Ascents.{ascending_differ}
 use Rattle.hashed_words.specs.Hashed.{value_at}
-use Rattle.inverted_index.specs.PairedWords.{paired_words, keys_of, values_of}
+use Rattle.hashed_words.specs.PairedWords.{paired_words, keys_of, values_of}
+use Rattle.hashed_words.proofs.Values.{two_on}
 
 pub length-paired_words : (ps : List (List ℕ × List ℕ)) → length (paired_words ps) ≡ 2 * length ps
 length-paired_words [] = refl
@@ -15,9 +16,6 @@ key_count-paired_words ps = omega (arith, length-paired_words ps)
 
 pub IsPaired-paired_words : (ps : List (List ℕ × List ℕ)) → file.IsPaired (paired_words ps)
 IsPaired-paired_words ps = omega (arith, length-paired_words ps)
-
-two_on : (a b : List ℕ) (ws : List (List ℕ)) (j m : ℕ) → j ≡ suc (suc m) → get_or (a ∷ b ∷ ws) j [] ≡ get_or ws m []
-two_on a b ws j m e = ap (λ (k : ℕ). get_or (a ∷ b ∷ ws) k []) e
 
 key_of : (ps : List (List ℕ × List ℕ)) (place j : ℕ) → j ≡ 2 * place → get_or (paired_words ps) j [] ≡ get_or (keys_of ps) place []
 key_of [] place j e = refl
@@ -41,7 +39,7 @@ length-keys_of : (ps : List (List ℕ × List ℕ)) → length (keys_of ps) ≡ 
 length-keys_of [] = refl
 length-keys_of (p ∷ ps) = ap suc (length-keys_of ps)
 
-KeysAscend-at : (ks : List (List ℕ)) → KeysAscend ks → (p q : ℕ) → p < q → q < length ks → IsBelow (get_or ks p []) (get_or ks q [])
+pub KeysAscend-at : (ks : List (List ℕ)) → KeysAscend ks → (p q : ℕ) → p < q → q < length ks → IsBelow (get_or ks p []) (get_or ks q [])
 KeysAscend-at [] up p q h below = absurd (omega arith)
 KeysAscend-at (k ∷ ks) up p zero h below = absurd (omega arith)
 KeysAscend-at (k ∷ ks) up zero (suc q) h below = up.0 q [] (omega arith)
