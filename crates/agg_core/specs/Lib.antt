@@ -2,3 +2,4 @@ pub mod Names
 pub mod Bytes
 pub mod Files
 pub mod Rows
+pub mod Consistent
