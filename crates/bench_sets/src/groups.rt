@@ -1,6 +1,8 @@
 ghost use Rattle.std.specs.Prelude.{◌≡◌, IfOk, IfSome};
 ghost use Rattle.std.specs.Arc.{arc_value};
+ghost use Rattle.merge_ranges.specs.declared.name.FileName.{FileName};
 ghost use Rattle.visible_files.specs.Ids.{ExtendsOrMerges};
+ghost use Rattle.visible_files.specs.Held.{count_of};
 
 use agg_model::{Entity, Range};
 use agg_outside::Memory;
@@ -84,7 +86,9 @@ fn next_range(alloc: Global, set: &FileSet<Files>, entity: Entity) -> Result<Opt
 const GROUPS_MOST: usize = 100_000;
 
 /// Publishes the next merge of the entity; false where there is none.
-pub fn merged(alloc: Global, sets: &mut FileSets<Files>, entity: Entity) -> Result<bool, Memory> {
+pub fn merged(alloc: Global, sets: &mut FileSets<Files>, entity: Entity) -> Result<bool, Memory>
+    ensures { (n : FileName) → count_of sets.new.held n ≡ count_of sets.old.held n }
+{
     let groups = sets.current().groups().len();
     if groups > GROUPS_MOST {
         return Ok(false);

@@ -18,6 +18,3 @@ pub use prepared::Prepared;
 pub use set::FileSet;
 pub use sets::FileSets;
 pub use shared::shares_sets;
-
-#[cfg(test)]
-mod tests;
