@@ -13,7 +13,7 @@ mod step;
 pub use entity_files::EntityFiles;
 pub use laws::group_laws;
 pub use shared::shares_groups;
-pub use step::{Groups, collate};
+pub use step::{Groups, Inputs, collate};
 
 #[cfg(test)]
 mod tests;

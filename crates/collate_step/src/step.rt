@@ -27,6 +27,9 @@ use std::thread::Threads;
 /// The groups of a step, in the order of entities.
 pub type Groups = ListOf<EntityFiles>;
 
+/// Groups that others hold too, as those below a step and those of a merge.
+pub type Inputs = ListOf<Arc<EntityFiles>>;
+
 /// How many entities there are.
 const ENTITY_COUNT: u8 = 7;
 
