@@ -1,27 +1,27 @@
 -- Laws of the looks that find the keys of an entity.
-use Rattle.std.proofs.Common.{◌≡◌, ◌≢◌, ℕ, ◌<◌, ◌≤◌, Bool, true, false, not, cond, ◌&&◌, List, [], ◌∷◌, ◌++◌, length, take, map, All, Option, Some, None, IfSome, refl, sym, ap, subst, ◌∙◌, arith, append-nil, append_assoc, ltb-true, ltb-false, leb-true, leb-false, eqb-true, eq-eqb}
+use Rattle.std.proofs.Common.{◌≡◌, ◌≢◌, ℕ, ◌<◌, ◌≤◌, Bool, true, false, not, cond, ◌&&◌, List, [], ◌∷◌, ◌++◌, length, take, map, All, Some, None, refl, sym, ap, subst, ◌∙◌, arith, append-nil, append_assoc, ltb-true, ltb-false, leb-true, eqb-true, eq-eqb}
 use Rattle.std.specs.Prelude.{◌==◌, nat_eq, nat_le, nat_lt}
 use Rattle.std.specs.List.{filter}
 use Rattle.std.specs.declared.cmp.Ordering.{Ordering}
 use Rattle.std.specs.declared.cmp.Ordering.TheVariants.{Less, Equal, Greater}
 use Rattle.std.specs.Ordering.{nat_cmp, ordering_then, ordering_reverse, is_lt, is_gt}
-use Rattle.std.specs.Cmp.{IsTotalOrder, nat_cmp_total, tied_itself, upto, first_so, second_so}
+use Rattle.std.specs.Cmp.{IsTotalOrder, nat_cmp_total, tied_itself, upto}
 use Rattle.std.specs.Cmp.Lexicographic.{slice_cmp, pointwise, nat_list_cmp_total, bytes_decides}
 use Rattle.std.specs.FinMap.{nat_cmp-IsAntisymmetric, slice_cmp-IsAntisymmetric}
-use Rattle.std.proofs.lemmas.Bool.{lt-ltb, le-ltb, le-leb}
+use Rattle.std.proofs.lemmas.Bool.{lt-ltb, le-leb}
 use Rattle.std.proofs.lemmas.Cmp.{ranked}
 use Rattle.std.proofs.lemmas.List.{map-append, length-append}
-use Rattle.std.proofs.lemmas.List.Elements.{All-head, All-tail, All-cons, All-nil, All-map, All-filter, filter-append, filter_passes}
+use Rattle.std.proofs.lemmas.List.Elements.{All-head, All-tail, All-map, All-filter, filter-append, filter_passes}
 use Rattle.agg_outside.specs.declared.rows.RowId.{RowId}
 use Rattle.agg_outside.specs.declared.rows.Row.{Row}
-use Rattle.agg_outside.specs.Rows.{Held, id_cmp, is_before, ascends_after, ascends, first_from, rows_from}
-use Rattle.agg_outside.specs.RowOrder.{before_itself, before_trans, before_then_not, not_then_not, before_not_back, ascends-after, rows_from-place, none_before-from}
+use Rattle.agg_outside.specs.Rows.{Held, id_cmp, is_before, ascends, first_from, rows_from}
+use Rattle.agg_outside.specs.RowOrder.{before_itself, before_then_not, ascends-after, rows_from-place, none_before-from}
 use Rattle.agg_model.specs.declared.entity.Entity.{Entity}
 use Rattle.agg_model.specs.declared.change.Change.{Change}
 use Rattle.agg_model.specs.Entity.{entity_number}
-use Rattle.agg_model.specs.Contents.{is_within, goes_on, keys_of}
+use Rattle.agg_model.specs.Contents.{is_within, keys_of}
 use Rattle.row_epochs.specs.Seen.{is_seen, seen}
-use Rattle.row_epochs.specs.Changes.{entity_of, change_of, changes_seen}
+use Rattle.row_epochs.specs.Changes.{change_of, changes_seen}
 use Rattle.row_epochs.specs.Places.{behind, place_at}
 use Rattle.row_epochs.specs.Versions.{IsVersion, AreVersions}
 use Rattle.row_epochs.proofs.RowWalks.{entity_number-entity_of, rows_from-found, rows_from-none_found, before_behind, le_not}

@@ -1,4 +1,7 @@
 pub mod KeyLaws
+pub mod NoteLaws
 pub mod PieceLaws
 pub mod PruneLaws
+pub mod PruneLeft
+pub mod StepLaws
 pub mod TimesLaws

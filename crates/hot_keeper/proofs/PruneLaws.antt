@@ -1,17 +1,16 @@
 -- Laws of what a prune kills.
-use Rattle.std.proofs.Common.{◌≡◌, ℕ, ◌+◌, ◌<◌, ◌≤◌, Bool, true, false, not, cond, ◌||◌, List, [], ◌∷◌, ◌++◌, length, take, map, All, Option, Some, None, IfSome, IsSomeAnd, refl, sym, ap, subst, ◌∙◌, arith, eqb-true, get_or, ltb-true, ltb-false, ◌↔◌}
+use Rattle.std.proofs.Common.{◌≡◌, ℕ, ◌+◌, ◌<◌, ◌≤◌, Bool, true, false, not, cond, ◌||◌, List, [], ◌∷◌, length, take, All, Option, Some, IfSome, IsSomeAnd, refl, sym, ap, subst, ◌∙◌, arith, eqb-true, get_or, ltb-true, ltb-false, ◌↔◌}
 use Rattle.std.specs.Prelude.{◌==◌, nat_lt}
 use Rattle.std.specs.List.{filter}
 use Rattle.std.proofs.lemmas.List.{length-map}
-use Rattle.std.proofs.lemmas.List.Elements.{All-head, All-tail, All-cons, All-nil, All-map, All-filter, All-take, filter_passes}
+use Rattle.std.proofs.lemmas.List.Elements.{All-cons, All-nil, All-map, All-filter, All-take, filter_passes}
 use Rattle.agg_outside.specs.declared.rows.RowId.{RowId}
 use Rattle.agg_outside.specs.declared.rows.Row.{Row}
-use Rattle.agg_outside.specs.Rows.{Held, is_before, is_same, ascends_after, ascends, row_at, applied}
+use Rattle.agg_outside.specs.Rows.{Held, is_same, ascends_after, ascends, row_at, applied}
 use Rattle.agg_outside.specs.RowOrder.{same_itself, before_not_same, ascends-after, ascends_after-before}
 use Rattle.row_epochs.specs.Seen.{is_alive}
 use Rattle.row_epochs.specs.Changes.{kills_of}
-use Rattle.row_epochs.specs.Places.{ids_of}
-use Rattle.row_epochs.specs.Versions.{AreVersions, IsAlive}
+use Rattle.row_epochs.specs.Versions.{IsAlive}
 use Rattle.row_epochs.proofs.Answering.{tell, fall}
 use Rattle.hot_keeper.specs.Pruning.{has_low_number, low_rows, pruned_ids, does_prune, pruned, epoch_pruned}
 

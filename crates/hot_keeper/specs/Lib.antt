@@ -1,3 +1,5 @@
 pub mod Errors
+pub mod NoteOrder
+pub mod Notes
 pub mod Pruning
 pub mod Windows

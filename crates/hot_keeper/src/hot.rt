@@ -13,8 +13,9 @@ ghost use Rattle.hot_keeper.specs.Windows.{act_of_change, window_times, window_k
 ghost use Rattle.hot_keeper.specs.Pruning.{low_rows, does_prune, pruned, epoch_pruned};
 
 use crate::keys::keys_within;
-use crate::pieces::changes_within;
+use crate::notes::{Notes, drop_below, note_batch};
 use crate::pruning::{Low, Pruned, kill_first, look_low};
+use crate::steps::changes_within;
 use crate::times::{times_down, times_up};
 use agg_model::{Act, Batch, Entity, Range, StepRows};
 use agg_outside::{Keeper, Keys, Numbers};
@@ -26,17 +27,21 @@ use std::marker::Model;
 #[derive(Drop)]
 pub struct Hot<K: Keeper> {
     rows: Rows<K>,
+    /// Each alive row by its number, once a step has been asked for.
+    notes: Option<Notes>,
 }
 
 impl<K: Keeper> Model for Hot<K> {
     ghost use Rattle.std.specs.Prelude.{IfSome};
     ghost use Rattle.row_epochs.specs.Versions.{Versions, AreVersions};
+    ghost use Rattle.hot_keeper.specs.Notes.{AreNoted};
 
     ghost Value = { Versions };
 
     ghost view = { λ h. h.rows };
 
-    ghost invariant = { λ h. IfSome h.rows.told (AreVersions h.rows.epoch) };
+    ghost invariant = { λ h. IfSome h.rows.told (AreVersions h.rows.epoch)
+        × IfSome h.rows.told (λ k. AreNoted h.notes k.rows) };
 }
 
 impl<K: Keeper> Hot<K> {
@@ -45,13 +50,13 @@ impl<K: Keeper> Hot<K> {
     {
         // That the rows are in order is a clause of this call.
         let _present = rows.epoch();
-        Hot { rows }
+        Hot { rows, notes: None }
     }
 
     pub fn into_rows(self) -> Rows<K>
         ensures { result ≡ self }
     {
-        let Hot { rows } = self;
+        let Hot { rows, .. } = self;
         rows
     }
 
@@ -91,6 +96,8 @@ impl<K: Keeper> Hot<K> {
         ensures worn { IsWorn result ↔ (self.old.epoch ≡ 2 ^ 62) }
         ensures cause { HasCause RowsError.Keeper self.old.faults self.new.faults result }
     {
+        let next = self.rows.epoch() + 1;
+        note_batch(alloc, &mut self.notes, next, batch);
         self.rows.write(alloc, batch)
     }
 
@@ -186,7 +193,7 @@ impl<K: Keeper> Hot<K> {
             from,
             to: from + size,
         };
-        let changes = changes_within(&mut self.rows, alloc, numbers)?;
+        let changes = changes_within(&mut self.rows, &mut self.notes, alloc, numbers)?;
         Ok(StepRows { step, changes })
     }
 
@@ -220,7 +227,11 @@ impl<K: Keeper> Hot<K> {
             (λ h. OnOk result (does_prune tx floor limit h ≡ false)) }
         ensures cause { HasCause RowsError.Keeper self.old.faults self.new.faults result }
     {
-        kill_first(&mut self.rows, alloc, tx, floor, limit)
+        let pruned = kill_first(&mut self.rows, alloc, tx, floor, limit)?;
+        if pruned.left == 0 {
+            drop_below(alloc, &mut self.notes, tx);
+        }
+        Ok(pruned)
     }
 
     /// How many alive rows have numbers below `tx`, and the floor. It goes over all rows once.

@@ -5,9 +5,11 @@
 mod error;
 mod hot;
 mod keys;
+mod notes;
 mod pieces;
 mod pruning;
 mod shared;
+mod steps;
 mod times;
 
 pub use error::ReadError;

@@ -1,21 +1,18 @@
 //! Walks over all rows that the present epoch sees, in pieces.
-ghost use Rattle.std.specs.Prelude.{◌≡◌, ◌+◌, ◌++◌, ◌≤◌, [], ◌∷◌, length, take, map, nat_lt, IfSome, IfOk, OnOk};
+ghost use Rattle.std.specs.Prelude.{◌≡◌, ◌+◌, ◌++◌, ◌≤◌, length, take, nat_lt, IfSome, IfOk, OnOk};
 ghost use Rattle.std.specs.List.{filter};
 ghost use Rattle.agg_outside.specs.Counts.{HasCause};
 ghost use Rattle.row_epochs.specs.Errors.{IsUnworn};
-ghost use Rattle.row_epochs.specs.Changes.{change_of, changes_seen};
 ghost use Rattle.row_epochs.specs.Places.{ids_of};
 ghost use Rattle.row_epochs.specs.Versions.{AreVersions};
-ghost use Rattle.hot_keeper.specs.Windows.{is_within_numbers};
 ghost use Rattle.hot_keeper.specs.Pruning.{has_low_number, low_rows, pruned_ids};
 
-use agg_model::{Batch, Range};
-use agg_outside::{Keeper, ListOf, Memory, Row, RowId, Rowlist};
-use row_epochs::{Rows, RowsError, change_of, first_place, next_piece};
+use agg_outside::{Keeper, Memory, RowId, Rowlist};
+use row_epochs::{Rows, RowsError, first_place, next_piece};
 use std::alloc::Global;
 
 /// The rows of one piece.
-const PIECE: usize = 256;
+pub const PIECE: usize = 256;
 
 /// The first ids of rows that are sought, and whether there are more.
 #[derive(Debug, Drop)]
@@ -121,65 +118,6 @@ pub fn count_below<K: Keeper>(rows: &mut Rows<K>, alloc: Global, tx: u64) -> Res
         let next = next_piece(alloc, &piece, PIECE)?;
         let Some(next) = next else {
             return Ok(count);
-        };
-        place = next;
-    }
-    Err(RowsError::Memory)
-}
-
-#[tactic(auto, unfolding(crate::specs::Windows::is_within_numbers, row_epochs::specs::Changes::change_of))]
-fn is_within(numbers: Range, row: &Row) -> bool
-    ensures { result ≡ is_within_numbers numbers.from numbers.to (change_of row.now) }
-{
-    numbers.from <= row.id.tx && row.id.tx < numbers.to
-}
-
-// Adds the change of the row, where its number is in the range.
-fn note_change(numbers: Range, row: Row, changes: &mut Batch) -> Result<(), Memory>
-    ensures { OnOk result (changes.new ≡ changes.old ++ filter (is_within_numbers numbers.from numbers.to)
-        (map change_of (row ∷ []))) }
-{
-    if is_within(numbers, &row) {
-        let change = change_of(row)?;
-        changes.push(change)?;
-    }
-    Ok(())
-}
-
-// Adds the changes of the rows of the piece with numbers in the range.
-fn note_changes(numbers: Range, piece: Rowlist, changes: &mut Batch) -> Result<(), Memory>
-    ensures { OnOk result (changes.new ≡ changes.old ++ filter (is_within_numbers numbers.from numbers.to)
-        (map change_of piece)) }
-{
-    for row in piece.into_vec() {
-        note_change(numbers, row, changes)?;
-    }
-    Ok(())
-}
-
-/// The changes with numbers in the range that the present epoch sees. Over a keeper that tells its rows
-/// the bound on the pieces is never met.
-pub fn changes_within<K: Keeper>(
-    rows: &mut Rows<K>,
-    alloc: Global,
-    numbers: Range,
-) -> Result<Batch, RowsError>
-    requires { IfSome rows.old.told (AreVersions rows.old.epoch) }
-    ensures changes { IfSome rows.old.told (λ h. IfOk result (λ changes. changes ≡ filter
-        (is_within_numbers numbers.from numbers.to) (changes_seen rows.old.epoch h.rows))) }
-    ensures same { rows.new ≡ record rows.old { faults = rows.new.faults } }
-    ensures unworn { IsUnworn result }
-    ensures cause { HasCause RowsError.Keeper rows.old.faults rows.new.faults result }
-{
-    let present = rows.epoch();
-    let mut changes = ListOf::new(alloc);
-    let mut place = first_place(alloc)?;
-    for _piece in 0..u64::MAX {
-        let piece = rows.view_some(alloc, present, &place, PIECE)?;
-        let next = next_piece(alloc, &piece, PIECE)?;
-        note_changes(numbers, piece, &mut changes)?;
-        let Some(next) = next else {
-            return Ok(changes);
         };
         place = next;
     }

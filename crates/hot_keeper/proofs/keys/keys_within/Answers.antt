@@ -1,10 +1,8 @@
-use Rattle.std.proofs.Common.{◌≡◌, ℕ, List, length, take, reverse, Option, Some, None, refl, sym, ap, subst, ◌∙◌, arith, eqb-true}
+use Rattle.std.proofs.Common.{◌≡◌, ℕ, List, length, take, refl, sym, ap, subst, ◌∙◌, arith, eqb-true}
 use Rattle.std.proofs.lemmas.Bool.{eqb-false}
 use Rattle.agg_model.specs.Entity.{entity_number}
 use Rattle.agg_outside.specs.declared.rows.RowId.{RowId}
-use Rattle.agg_outside.specs.declared.rows.Row.{Row}
-use Rattle.agg_outside.specs.Rows.{Held, is_before, first_from, last_before}
-use Rattle.agg_model.specs.Contents.{times}
+use Rattle.agg_outside.specs.Rows.{Held, first_from}
 use Rattle.row_epochs.specs.Changes.{changes_seen}
 use Rattle.row_epochs.specs.Versions.{Versions, AreVersions}
 use Rattle.row_epochs.proofs.Answering.{tell, fall}

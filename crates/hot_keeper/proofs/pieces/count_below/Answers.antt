@@ -1,15 +1,9 @@
-use Rattle.std.proofs.Common.{◌≡◌, ◌≤◌, ◌++◌, ℕ, List, length, map, take, refl, sym, ap, subst, ◌∙◌, arith}
-use Rattle.std.specs.Prelude.{nat_lt}
-use Rattle.std.specs.List.{filter}
-use Rattle.agg_outside.specs.declared.rows.RowId.{RowId}
-use Rattle.agg_outside.specs.declared.rows.Row.{Row}
+use Rattle.std.proofs.Common.{◌≡◌, length, take, refl, ap, ◌∙◌, arith}
 use Rattle.agg_outside.specs.Rows.{Held, rows_from}
 use Rattle.row_epochs.specs.Seen.{seen}
-use Rattle.row_epochs.specs.Changes.{changes_seen}
 use Rattle.row_epochs.specs.Versions.{Versions, AreVersions}
 use Rattle.row_epochs.proofs.Answering.{tell, fall}
-use Rattle.hot_keeper.specs.Pruning.{low_rows, pruned_ids}
-use Rattle.hot_keeper.specs.Windows.{is_within_numbers}
+use Rattle.hot_keeper.specs.Pruning.{low_rows}
 use Rattle.hot_keeper.proofs.PieceLaws.{walk, counted_first, counted_all, counted_on}
 use Rattle.hot_keeper.proofs.pieces.count_below.Goals as goal
 

@@ -1,10 +1,7 @@
-use Rattle.std.proofs.Common.{◌≡◌, ◌≤◌, ◌+◌, ◌++◌, length, map, Some}
-use Rattle.std.specs.List.{filter}
+use Rattle.std.proofs.Common.{◌≡◌, ◌≤◌, ◌++◌, length, Some}
 use Rattle.agg_outside.specs.Rows.{Held, rows_from}
 use Rattle.row_epochs.specs.Seen.{seen}
-use Rattle.row_epochs.specs.Changes.{change_of}
 use Rattle.row_epochs.specs.Places.{ids_of}
-use Rattle.row_epochs.specs.Versions.{Versions}
 use Rattle.hot_keeper.proofs.PieceLaws.{low}
 use Rattle.hot_keeper.proofs.pieces.first_below.Given as goal
 

@@ -1,12 +1,10 @@
-use Rattle.std.proofs.Common.{◌≡◌, ℕ, List, length, take, reverse, Option, Some, None, refl, sym, ap, subst, ◌∙◌, arith}
+use Rattle.std.proofs.Common.{◌≡◌, ℕ, List, length, take, refl, sym, ap, subst, ◌∙◌, arith}
 use Rattle.agg_outside.specs.declared.rows.RowId.{RowId}
-use Rattle.agg_outside.specs.declared.rows.Row.{Row}
-use Rattle.agg_outside.specs.Rows.{Held, is_before, first_from, last_before}
+use Rattle.agg_outside.specs.Rows.{Held, is_before, first_from}
 use Rattle.agg_model.specs.Contents.{times}
 use Rattle.row_epochs.specs.Changes.{changes_seen}
 use Rattle.row_epochs.specs.Versions.{Versions, AreVersions}
 use Rattle.row_epochs.proofs.Answering.{tell, fall}
-use Rattle.hot_keeper.specs.Windows.{window_keys}
 use Rattle.row_epochs.specs.Places.{place_at}
 use Rattle.hot_keeper.proofs.TimesLaws.{Rising, rising_first, rising_full, rising_none, rising_all, rising_over, rising_look, still_short}
 use Rattle.hot_keeper.proofs.times.times_up.Goals as goal
