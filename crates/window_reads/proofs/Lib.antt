@@ -1,0 +1,4 @@
+pub mod NumberWalks
+pub mod Stands
+pub mod GroupWalks
+pub mod NumberPages
