@@ -1,0 +1,15 @@
+pub mod TextLaws
+pub mod Inside
+pub mod GroupTexts
+pub mod Cuts
+pub mod Rows
+pub mod KeptSimple
+pub mod Visible
+pub mod KeptCollation
+pub mod KeptMerge
+pub mod Kept
+pub mod Ends
+pub mod Histories
+pub mod SeenFiles
+pub mod Opened
+pub mod FirstImpossible

@@ -1,0 +1,5 @@
+pub mod Texts
+pub mod Sound
+pub mod Publishing
+pub mod Entries
+pub mod Histories
