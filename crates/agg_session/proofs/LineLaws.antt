@@ -1,9 +1,8 @@
 -- Laws of the effect of one line.
-use Rattle.std.proofs.Common.{◌≡◌, ℕ, Bool, true, false, ◌==◌, List, [], ◌∷◌, length, Option, Some, None, IfSome, unwrap_or, refl, ap, subst, sym, ◌∙◌, inl, inr, arith, eqb-true}
+use Rattle.std.proofs.Common.{◌≡◌, ℕ, Bool, true, false, ◌==◌, List, [], ◌∷◌, length, Option, Some, None, IfSome, refl, ap, subst, sym, ◌∙◌, inl, inr, arith, eqb-true}
 use Rattle.agg_outside.specs.declared.disk.Disk.{Ghosts as DiskGhosts}
 use Rattle.agg_outside.specs.declared.keeper.Keeper.{Ghosts as KeeperGhosts}
 use Rattle.line_words.specs.declared.reply.Reply.{Reply}
-use Rattle.line_words.specs.declared.reply.Reply.TheVariants.{ErrSyntax}
 use Rattle.line_words.specs.Requests.{request_of}
 use Rattle.line_words.specs.Replies.{reply_text}
 use Rattle.agg_session.specs.declared.limits.Limits.{Limits}
@@ -20,7 +19,7 @@ use Rattle.agg_session.specs.Running.{Stands, Answers, HasEffect, EndsAt}
 pub short_effect-empty : (limits : Limits) (number : ℕ) (line : List ℕ) (s : State) → line ≡ [] → short_effect limits number line s ≡ record { state = s; reply = []; settled = 0 }
 short_effect-empty limits number line s empty = ap (λ l. short_effect limits number l s) empty
 
-pub short_effect-some : (limits : Limits) (number : ℕ) (line : List ℕ) (s : State) → (length line ≡ 0 → ⊥) → short_effect limits number line s ≡ effect_of number (read_outcome limits (request_of line) s)
+pub short_effect-some : (limits : Limits) (number : ℕ) (line : List ℕ) (s : State) → (length line ≡ 0 → ⊥) → short_effect limits number line s ≡ effect_of (read_outcome limits number (request_of line) s)
 short_effect-some limits number [] s some = absurd (some refl)
 short_effect-some limits number (b ∷ line) s some = refl
 
@@ -30,18 +29,14 @@ effect_same disk keeper session text s d e stands =
     subst (λ (x : Effect). HasEffect disk keeper session text x) (sym e) (record { told = refl; stands = stands; settled = omega arith })
 
 -- a line whose reply was found
-pub effect_told : {D K : Type 0} (disk : DiskGhosts D) (keeper : KeeperGhosts K) (session : Session D K) (number : ℕ) (reply : Reply) (o : Option Reply) (text : List ℕ) (out : Outcome) (d : Effect) → d ≡ effect_of number out → Answers disk keeper session o out → reply ≡ unwrap_or o (ErrSyntax number) → text ≡ reply_text reply → HasEffect disk keeper session text d
-effect_told disk keeper session number reply o text out d e answers is printed =
+pub effect_told : {D K : Type 0} (disk : DiskGhosts D) (keeper : KeeperGhosts K) (session : Session D K) (reply : Reply) (text : List ℕ) (out : Outcome) (d : Effect) → d ≡ effect_of out → Answers disk keeper session reply out → text ≡ reply_text reply → HasEffect disk keeper session text d
+effect_told disk keeper session reply text out d e answers printed =
     subst (λ (x : Effect). HasEffect disk keeper session text x) (sym e)
-    (record {
-      told = printed ∙ ap reply_text (is ∙ ap (λ x. unwrap_or x (ErrSyntax number)) answers.told);
-      stands = answers.stands;
-      settled = answers.settled;
-    })
+    (record { told = printed ∙ ap reply_text answers.told; stands = answers.stands; settled = answers.settled })
 
 -- where the reply can't be printed the line has been worked on
-pub ends_after : {D K : Type 0} (disk : DiskGhosts D) (keeper : KeeperGhosts K) (session : Session D K) (number : ℕ) (o : Option Reply) (before : State) (out : Outcome) (d : Effect) → d ≡ effect_of number out → Answers disk keeper session o out → EndsAt disk keeper session.store before.list d.state.list
-ends_after disk keeper session number o before out d e answers =
+pub ends_after : {D K : Type 0} (disk : DiskGhosts D) (keeper : KeeperGhosts K) (session : Session D K) (reply : Reply) (before : State) (out : Outcome) (d : Effect) → d ≡ effect_of out → Answers disk keeper session reply out → EndsAt disk keeper session.store before.list d.state.list
+ends_after disk keeper session reply before out d e answers =
     inr (kept disk keeper session.store d.state.list (subst (λ (x : Effect). Holds disk keeper session.store x.state.list) (sym e) answers.stands.list))
 
 -- where a line wasn't worked on, if there was one

@@ -1,21 +1,30 @@
 -- The replies of a session to a text, and the state after it.
 use Rattle.std.specs.Prelude.{◌≡◌, ◌⊎◌, ◌≤◌, ℕ, ◌+◌, List, [], ◌∷◌, ◌++◌, length}
-use Rattle.std.specs.Prelude.{Option, Some, unwrap_or, Result, Ok, Err}
+use Rattle.std.specs.Prelude.{Option, Some, Result, Ok, Err}
 use Rattle.std.specs.Option.{ForSome}
 use Rattle.agg_model.specs.ChangeList.{ChangeList}
 use Rattle.line_words.specs.declared.request.Request.{Request}
 use Rattle.line_words.specs.declared.request.LineError.{LineError}
-use Rattle.line_words.specs.declared.reply.Reply.TheVariants.{ErrSyntax}
+use Rattle.line_words.specs.declared.request.LineError.TheVariants as errors
+use Rattle.line_words.specs.declared.reply.Reply.{Reply}
+use Rattle.line_words.specs.declared.reply.Reply.TheVariants as says
 use Rattle.line_words.specs.LineCut.{Piece, Whole, TooLong, pieces_of}
 use Rattle.line_words.specs.Requests.{request_of}
 use Rattle.line_words.specs.Replies.{reply_text}
 use Rattle.agg_session.specs.declared.limits.Limits.{Limits}
-use Rattle.agg_session.specs.State.{State, Outcome, refused, outcome, starting}
+use Rattle.agg_session.specs.State.{State, Outcome, replied, outcome, starting}
 
--- a line that is no request is refused
-abbrev pub read_outcome : Limits → Result Request LineError → State → Outcome
-read_outcome limits (Ok request) s = outcome limits request s
-read_outcome limits (Err error) s = refused s
+-- what a line is replied that makes no request; want of memory is never why
+abbrev pub line_refusal : ℕ → LineError → Reply
+line_refusal number errors.Syntax = says.ErrSyntax number
+line_refusal number (errors.Length length) = says.ErrLength length
+line_refusal number errors.Entity = says.ErrEntity
+line_refusal number errors.Memory = says.ErrSyntax number
+
+-- the line of this number, as it was read
+abbrev pub read_outcome : Limits → ℕ → Result Request LineError → State → Outcome
+read_outcome limits number (Ok request) s = outcome limits number request s
+read_outcome limits number (Err error) s = replied s (line_refusal number error)
 
 -- the state after a line, and the text of its reply; and how many first steps are in files from then on
 pub record Effect : Type 0 where
@@ -23,22 +32,17 @@ pub record Effect : Type 0 where
   pub reply : List ℕ
   pub settled : ℕ
 
--- what is refused gets `err syntax` and the number of the line
-abbrev pub effect_of : ℕ → Outcome → Effect
-effect_of number o = record {
-  state = o.state;
-  reply = reply_text (unwrap_or o.reply (ErrSyntax number));
-  settled = o.settled;
-}
+abbrev pub effect_of : Outcome → Effect
+effect_of o = record { state = o.state; reply = reply_text o.reply; settled = o.settled }
 
 -- a line within the limit; an empty one has no reply
 abbrev pub short_effect : Limits → ℕ → List ℕ → State → Effect
 short_effect limits number [] s = record { state = s; reply = []; settled = 0 }
-short_effect limits number (b ∷ line) s = effect_of number (read_outcome limits (request_of (b ∷ line)) s)
+short_effect limits number (b ∷ line) s = effect_of (read_outcome limits number (request_of (b ∷ line)) s)
 
 -- a line as it is cut off: one that is too long is refused
 unfoldable pub effect : Limits → ℕ → Piece → State → Effect
-effect limits number TooLong s = effect_of number (refused s)
+effect limits number TooLong s = effect_of (replied s (says.ErrLong number))
 effect limits number (Whole line) s = short_effect limits number line s
 
 -- the replies to lines, one for each, of which the first has the number

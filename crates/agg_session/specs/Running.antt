@@ -39,7 +39,7 @@ pub record Stands {D K : Type 0} (disk : DiskGhosts D) (keeper : KeeperGhosts K)
 -- the reply is that of the outcome, whose state the session then stands for, and the steps that it says
 -- are in files
 pub record Answers {D K : Type 0} (disk : DiskGhosts D) (keeper : KeeperGhosts K) (session : Session D K)
-    (reply : Option Reply) (o : Outcome) : Type 0 where
+    (reply : Reply) (o : Outcome) : Type 0 where
   pub told : reply ≡ o.reply
   pub stands : Stands disk keeper session o.state
   pub settled : o.settled ≤ steps_held session.store
@@ -78,8 +78,8 @@ pub record IsReplied {D K : Type 0} (disk : DiskGhosts D) (keeper : KeeperGhosts
 
 -- the reply is what a transaction's own view of the store tells, whatever else the store has
 abbrev pub ReadsOwnView : {D K : Type 0} → KeeperGhosts K → Session D K → ℕ → Entity → List ℕ →
-    Result (Option Reply) Stop → Type 0
+    Result Reply Stop → Type 0
 ReadsOwnView keeper session number e k result =
     (t : Transaction) (list : ChangeList) →
     Some t ≡ open_of number session.link.transactions → Reads keeper t.view session.store list →
-    IfOk result (λ reply. reply ≡ Some (value_reply (value_at list.changes e k t.view.next)))
+    IfOk result (λ reply. reply ≡ value_reply (value_at list.changes e k t.view.next))

@@ -1,14 +1,16 @@
 //! What a link keeps between two lines, apart from the accepted changes.
 ghost use Rattle.std.specs.Prelude.{◌≡◌, ◌+◌, ◌<◌, ◌≤◌, ◌^◌, [], ◌∷◌, ◌++◌, length, is_some, Some, None, IfOk, IfSome};
-ghost use Rattle.std.specs.Prelude.{IfNone, MatchOption, OnErr, nat_lt, nat_le, ◌&&◌};
+ghost use Rattle.std.specs.Prelude.{IfNone, MatchOption, OnOk, OnErr, nat_lt, nat_le, unwrap_or};
+ghost use Rattle.std.specs.Result.{result_err};
 ghost use Rattle.std.specs.Bool.{OnTrue, OnFalse};
 ghost use Rattle.agg_model.specs.Batch.{content_of, value_length};
-ghost use Rattle.agg_session.specs.State.{is_above};
+ghost use Rattle.agg_session.specs.State.{number_refusal};
 ghost use Rattle.agg_session.specs.Links.{open_of, transactions_without, IsPlaceOf};
 
 use crate::limits::Limits;
 use agg_model::{Act, Batch, Change};
 use agg_outside::{ListOf, Memory};
+use line_words::Reply;
 use plain_state::View;
 use std::alloc::Global;
 use std::mem;
@@ -53,18 +55,20 @@ impl Link {
         }
     }
 
-    /// Makes `number` the current one, and answers whether it could: it has to be above the
-    /// current one and below `far`.
-    pub fn set_number(&mut self, number: u64, far: u64) -> bool
-        ensures could { result ≡ (nat_lt number far && is_above number self.old.current) }
-        ensures set { OnTrue result (self.new ≡ record self.old { current = Some number }) }
-        ensures unchanged { OnFalse result (self.new ≡ self.old) }
+    /// Makes `number` the current one, which has to be below `far` and above the current one. An
+    /// `Err` is why it can't be, as it is replied.
+    pub fn set_number(&mut self, number: u64, far: u64) -> Result<(), Reply>
+        ensures refused { result_err result ≡ number_refusal far number self.old.current }
+        ensures below { OnOk result (number < far) }
+        ensures above { OnOk result (unwrap_or self.old.current 0 ≤ number) }
+        ensures set { OnOk result (self.new ≡ record self.old { current = Some number }) }
+        ensures unchanged { OnErr result (self.new ≡ self.old) }
     {
-        if number >= far || self.current.is_some_and(|current| number <= current) {
-            return false;
+        if let Some(refusal) = number_refusal(far, number, self.current) {
+            return Err(refusal);
         }
         self.current = Some(number);
-        true
+        Ok(())
     }
 
     #[tactic(auto, using(crate::proofs::LinkLaws::appending))]
@@ -149,6 +153,22 @@ impl Link {
         self.current = None;
         mem::replace(&mut self.pending, Batch::new(alloc))
     }
+}
+
+// Why the number can't be the current one.
+fn number_refusal(far: u64, number: u64, current: Option<u64>) -> Option<Reply>
+    ensures exact { result ≡ number_refusal far number current }
+    ensures below { IfNone result (number < far) }
+    ensures above { IfNone result (unwrap_or current 0 ≤ number) }
+{
+    if number >= far {
+        return Some(Reply::ErrFar(far, number));
+    }
+    let current = current?;
+    if number <= current {
+        return Some(Reply::ErrOrder(current, number));
+    }
+    None
 }
 
 fn content_of_change(change: &Change) -> u64

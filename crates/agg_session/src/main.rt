@@ -9,6 +9,8 @@ mod ends;
 mod file_tests;
 mod limits;
 mod link;
+#[cfg(test)]
+mod refusal_tests;
 mod run;
 mod served;
 mod session;

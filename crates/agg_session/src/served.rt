@@ -220,7 +220,7 @@ fn reply_to<D: Disk, K: Keeper>(
 {
     match cutting {
         Cutting::Line(line) => Ok(Some(session.line(alloc, limits, number, line)?)),
-        Cutting::Long => Ok(Some(Reply::ErrSyntax(number).print(alloc)?)),
+        Cutting::Long => Ok(Some(Reply::ErrLong(number).print(alloc)?)),
         Cutting::NotYet => Ok(None),
     }
 }

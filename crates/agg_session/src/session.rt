@@ -1,20 +1,20 @@
 //! A session between two lines, and what each line makes of it.
 ghost use Rattle.std.specs.Prelude.{◌≡◌, ℕ, ◌+◌, ◌<◌, ◌≤◌, ◌^◌, [], ◌∷◌, ◌++◌, All, IfOk, IfSome, OnOk, OnErr, IsTrue};
-ghost use Rattle.agg_model.specs.Batch.{IsKey, IsValue};
-ghost use Rattle.agg_model.specs.Entity.{is_domain_entity};
+ghost use Rattle.agg_model.specs.Batch.{IsKey, HasValue, fits_entity};
 ghost use Rattle.agg_core.specs.Names.{complete_steps};
 ghost use Rattle.line_words.specs.Requests.{IsRequest, request_of};
+ghost use Rattle.line_words.specs.declared.reply.Reply.TheVariants as says;
 ghost use Rattle.plain_state.specs.Store.{Keeps, HasView, view_of, steps_held};
 ghost use Rattle.agg_session.specs.declared.limits.Limits.{Limits as TheLimits};
 ghost use Rattle.agg_session.specs.Links.{open_of};
-ghost use Rattle.agg_session.specs.State.{State, outcome, number_on, put_on, commit_on, open_on, close_on, latest_on};
+ghost use Rattle.agg_session.specs.State.{State, outcome, number_on, change_on, batch_refusal, commit_on, open_on, close_on, latest_on};
 ghost use Rattle.agg_session.specs.State.{settle_on, list_at};
 ghost use Rattle.agg_session.specs.Answer.{short_effect, read_outcome};
 ghost use Rattle.agg_session.specs.Running.{IsSession, Stands, Answers, HasEffect, EndsAt, KeepsDevices, ReadsOwnView};
 
 use crate::limits::Limits;
 use crate::link::{Link, Transaction};
-use agg_model::{Act, Change, Entity};
+use agg_model::{Act, Batch, Change, Entity};
 use agg_outside::{Bytes, Disk, Keeper, Memory};
 use line_words::{LineError, Reply, Request};
 use plain_state::{Stop, Store};
@@ -31,8 +31,8 @@ pub struct Session<D: Disk, K: Keeper> {
 }
 
 impl<D: Disk, K: Keeper> Session<D, K> {
-    /// `tx N`; no reply where it is refused, as below.
-    pub fn set_number(&mut self, number: u64) -> Option<Reply>
+    /// `tx N`
+    pub fn set_number(&mut self, number: u64) -> Reply
         requires { self.old.store.size ≤ 2 ^ 32 }
         ensures sound { (limits : TheLimits) → IsSession K.Keeper limits self.old → IsSession K.Keeper limits self.new }
         ensures opens { self.new.link.opens ≤ self.old.link.opens + 1 }
@@ -40,51 +40,50 @@ impl<D: Disk, K: Keeper> Session<D, K> {
             Answers D.Disk K.Keeper self.new result (number_on number s) }
         ensures store { self.new.store ≡ self.old.store }
     {
-        if self.link.set_number(number, STEPS * self.store.size()) {
-            Some(Reply::Ok)
-        } else {
-            None
+        match self.link.set_number(number, STEPS * self.store.size()) {
+            Ok(()) => Reply::Ok,
+            Err(refusal) => refusal,
         }
     }
 
-    /// `put E K V`
-    pub fn put(
+    /// `put E K V`, `del E K` and `mark E K`
+    pub fn change(
         &mut self,
         limits: &Limits,
         entity: Entity,
         key: Bytes,
-        value: Bytes,
-    ) -> Result<Option<Reply>, Memory>
+        act: Act,
+    ) -> Result<Reply, Memory>
         requires limit { limits.now.content ≤ 2 ^ 28 }
         requires sound { IsSession K.Keeper limits.now self.old }
-        requires domain { IsTrue (is_domain_entity entity) }
+        requires entity { IsTrue (fits_entity entity act) }
         requires key { IsKey key }
-        requires value { IsValue value }
+        requires value { HasValue act }
         ensures sound { IsSession K.Keeper limits.now self.old → IsSession K.Keeper limits.now self.new }
         ensures opens { self.new.link.opens ≤ self.old.link.opens + 1 }
         ensures exact { (s : State) → Stands D.Disk K.Keeper self.old s →
             IfOk result (λ reply. Answers D.Disk K.Keeper self.new reply
-            (put_on limits.now s.current entity key value s)) }
+            (change_on limits.now s.current entity key act s)) }
         ensures store { self.new.store ≡ self.old.store }
     {
         let Some(tx) = self.link.current else {
-            return Ok(None);
+            return Ok(Reply::ErrNotx);
         };
         let change = Change {
             tx,
             entity,
             key,
-            act: Act::Put(value),
+            act,
         };
         if self.link.add(change, limits)? {
-            Ok(Some(Reply::Ok))
+            Ok(Reply::Ok)
         } else {
-            Ok(None)
+            Ok(Reply::ErrLimit)
         }
     }
 
     /// `commit`
-    pub fn commit(&mut self, alloc: Global, limits: &Limits) -> Result<Option<Reply>, Stop>
+    pub fn commit(&mut self, alloc: Global, limits: &Limits) -> Result<Reply, Stop>
         requires limit { limits.now.content ≤ 2 ^ 28 }
         requires sound { IsSession K.Keeper limits.now self.old }
         ensures sound { IsSession K.Keeper limits.now self.old → IsSession K.Keeper limits.now self.new }
@@ -96,36 +95,40 @@ impl<D: Disk, K: Keeper> Session<D, K> {
         ensures devices { KeepsDevices D.Disk K.Keeper self.old.store self.new.store result }
     {
         let pending = self.link.clear(alloc);
+        let next = self.store.open().next();
+        if let Some(refusal) = batch_refusal(next, &pending) {
+            return Ok(refusal);
+        }
         let Some(accepted) = self.store.accept(alloc, limits.content, pending)? else {
-            return Ok(None);
+            return Ok(Reply::ErrLimit);
         };
-        Ok(Some(Reply::Committed(accepted.changes, accepted.next)))
+        Ok(Reply::Committed(accepted.changes, accepted.next))
     }
 
     /// `open`
-    pub fn open_transaction(&mut self, limits: &Limits) -> Result<Option<Reply>, Memory>
+    pub fn open_transaction(&mut self, limits: &Limits) -> Result<Reply, Memory>
         requires { self.old.link.opens < 2 ^ 63 }
         ensures sound { IsSession K.Keeper limits.now self.old → IsSession K.Keeper limits.now self.new }
         ensures opens { self.new.link.opens ≤ self.old.link.opens + 1 }
         ensures exact { (s : State) → Stands D.Disk K.Keeper self.old s →
             IfOk result (λ reply. Answers D.Disk K.Keeper self.new reply (open_on limits.now s)) }
         // The new transaction keeps the whole store as it stands.
-        ensures view { IfOk result (λ reply. IfSome reply (λ _.
+        ensures view { (n m : ℕ) → IfOk result (λ reply. reply ≡ says.Opened n m →
             self.new.link.transactions ≡ self.old.link.transactions ++ record {
               number = self.old.link.opens + 1;
               view = view_of self.old.store;
-            } ∷ [])) }
+            } ∷ []) }
         ensures store { self.new.store ≡ self.old.store }
     {
         let view = self.store.open();
         let Some(number) = self.link.open_transaction(view, limits)? else {
-            return Ok(None);
+            return Ok(Reply::ErrOpen(limits.opens));
         };
-        Ok(Some(Reply::Opened(number, view.next())))
+        Ok(Reply::Opened(number, view.next()))
     }
 
     /// `close T`
-    pub fn close_transaction(&mut self, number: u64) -> Option<Reply>
+    pub fn close_transaction(&mut self, number: u64) -> Reply
         ensures sound { (limits : TheLimits) → IsSession K.Keeper limits self.old → IsSession K.Keeper limits self.new }
         ensures opens { self.new.link.opens ≤ self.old.link.opens + 1 }
         ensures exact { (s : State) → Stands D.Disk K.Keeper self.old s →
@@ -133,9 +136,9 @@ impl<D: Disk, K: Keeper> Session<D, K> {
         ensures store { self.new.store ≡ self.old.store }
     {
         if self.link.close_transaction(number) {
-            Some(Reply::Ok)
+            Reply::Ok
         } else {
-            None
+            Reply::ErrTx(number)
         }
     }
 
@@ -155,12 +158,12 @@ impl<D: Disk, K: Keeper> Session<D, K> {
         number: u64,
         entity: Entity,
         key: &[u8],
-    ) -> Result<Option<Reply>, Stop>
+    ) -> Result<Reply, Stop>
         requires views { All (λ t. HasView self.old.store t.view) self.old.link.transactions }
         ensures sound { (limits : TheLimits) → IsSession K.Keeper limits self.old → IsSession K.Keeper limits self.new }
         ensures opens { self.new.link.opens ≤ self.old.link.opens + 1 }
         ensures exact { (s : State) → Stands D.Disk K.Keeper self.old s →
-            IfOk result (λ reply. Answers D.Disk K.Keeper self.new reply (latest_on
+            IfOk result (λ reply. Answers D.Disk K.Keeper self.new reply (latest_on number
             (list_at number s.transactions) entity key.now s)) }
         // Of the store it reads no more than the transaction keeps.
         ensures own { ReadsOwnView K.Keeper self.old number entity key.now result }
@@ -169,16 +172,16 @@ impl<D: Disk, K: Keeper> Session<D, K> {
         ensures devices { KeepsDevices D.Disk K.Keeper self.old.store self.new.store result }
     {
         let Some(opened) = self.transaction(number) else {
-            return Ok(None);
+            return Ok(Reply::ErrTx(number));
         };
         match self.store.value_before(alloc, &opened.view, entity, key)? {
-            Some(value) => Ok(Some(Reply::Value(value))),
-            None => Ok(Some(Reply::NoValue)),
+            Some(value) => Ok(Reply::Value(value)),
+            None => Ok(Reply::NoValue),
         }
     }
 
     /// `settle`
-    pub fn settle(&mut self, alloc: Global) -> Result<Option<Reply>, Stop>
+    pub fn settle(&mut self, alloc: Global) -> Result<Reply, Stop>
         requires sound { (limits : TheLimits) × IsSession K.Keeper limits self.old }
         ensures sound { (limits : TheLimits) → IsSession K.Keeper limits self.old → IsSession K.Keeper limits self.new }
         ensures opens { self.new.link.opens ≤ self.old.link.opens + 1 }
@@ -192,16 +195,17 @@ impl<D: Disk, K: Keeper> Session<D, K> {
         ensures devices { KeepsDevices D.Disk K.Keeper self.old.store self.new.store result }
     {
         self.store.settle(alloc)?;
-        Ok(Some(Reply::Files(self.store.names(alloc)?)))
+        Ok(Reply::Files(self.store.names(alloc)?))
     }
 
-    /// Works on a request, and answers its reply; none where it is refused.
+    /// Works on a request, which the line of this number makes, and answers its reply.
     pub fn request(
         &mut self,
         alloc: Global,
         limits: &Limits,
+        number: u64,
         request: Request,
-    ) -> Result<Option<Reply>, Stop>
+    ) -> Result<Reply, Stop>
         requires limit { limits.now.content ≤ 2 ^ 28 }
         requires sound { IsSession K.Keeper limits.now self.old }
         requires opens { self.old.link.opens < 2 ^ 63 }
@@ -209,42 +213,55 @@ impl<D: Disk, K: Keeper> Session<D, K> {
         ensures sound { IsSession K.Keeper limits.now self.new }
         ensures opens { self.new.link.opens ≤ self.old.link.opens + 1 }
         ensures exact { (s : State) → Stands D.Disk K.Keeper self.old s →
-            IfOk result (λ reply. Answers D.Disk K.Keeper self.new reply (outcome limits.now request s)) }
+            IfOk result (λ reply. Answers D.Disk K.Keeper self.new reply (outcome limits.now number request s)) }
         ensures err { (s : State) → Stands D.Disk K.Keeper self.old s →
             OnErr result (Keeps D.Disk K.Keeper self.new.store s.list) }
         ensures devices { KeepsDevices D.Disk K.Keeper self.old.store self.new.store result }
     {
         match request {
-            Request::Tx(number) => Ok(self.set_number(number)),
-            Request::Put(entity, key, value) => Ok(self.put(limits, entity, key, value)?),
+            Request::Tx(n) => Ok(self.set_number(n)),
+            Request::Put(e, k, v) => Ok(self.change(limits, e, k, Act::Put(v))?),
+            Request::Del(e, k) => Ok(self.change(limits, e, k, Act::Del)?),
+            Request::Mark(e, k) => Ok(self.change(limits, e, k, Act::Mark)?),
             Request::Commit => self.commit(alloc, limits),
             Request::Open => Ok(self.open_transaction(limits)?),
-            Request::Close(number) => Ok(self.close_transaction(number)),
-            Request::Latest(number, entity, key) => {
-                self.latest(alloc, number, entity, key.as_slice())
-            }
+            Request::Close(tx) => Ok(self.close_transaction(tx)),
+            Request::Latest(tx, e, k) => self.latest(alloc, tx, e, k.as_slice()),
             Request::Settle => self.settle(alloc),
+            // These aren't built yet.
+            Request::Asof(..) => Ok(Reply::ErrSyntax(number)),
+            Request::Range(..) => Ok(Reply::ErrSyntax(number)),
+            Request::History(..) => Ok(Reply::ErrSyntax(number)),
+            Request::Index(..) => Ok(Reply::ErrSyntax(number)),
         }
     }
 
-    // The reply to a line within the limit that isn't empty; none where it is refused.
-    fn read(&mut self, alloc: Global, limits: &Limits, line: &[u8]) -> Result<Option<Reply>, Stop>
+    // The reply to a line within the limit that isn't empty.
+    fn read(
+        &mut self,
+        alloc: Global,
+        limits: &Limits,
+        number: u64,
+        line: &[u8],
+    ) -> Result<Reply, Stop>
         requires limit { limits.now.content ≤ 2 ^ 28 }
         requires sound { IsSession K.Keeper limits.now self.old }
         requires opens { self.old.link.opens < 2 ^ 63 }
         ensures sound { IsSession K.Keeper limits.now self.new }
         ensures opens { self.new.link.opens ≤ self.old.link.opens + 1 }
         ensures exact { (s : State) → Stands D.Disk K.Keeper self.old s →
-            IfOk result (λ reply. Answers D.Disk K.Keeper self.new reply (read_outcome limits.now
+            IfOk result (λ reply. Answers D.Disk K.Keeper self.new reply (read_outcome limits.now number
             (request_of line.now) s)) }
         ensures err { (s : State) → Stands D.Disk K.Keeper self.old s →
             OnErr result (Keeps D.Disk K.Keeper self.new.store s.list) }
         ensures devices { KeepsDevices D.Disk K.Keeper self.old.store self.new.store result }
     {
         match Request::read(alloc, line) {
-            Ok(request) => self.request(alloc, limits, request),
+            Ok(request) => self.request(alloc, limits, number, request),
+            Err(LineError::Syntax) => Ok(Reply::ErrSyntax(number)),
+            Err(LineError::Length(length)) => Ok(Reply::ErrLength(length)),
+            Err(LineError::Entity) => Ok(Reply::ErrEntity),
             Err(LineError::Memory) => Err(Stop::Memory),
-            Err(_) => Ok(None),
         }
     }
 
@@ -272,8 +289,20 @@ impl<D: Disk, K: Keeper> Session<D, K> {
         if line.is_empty() {
             return Ok(Bytes::of(alloc, &[])?);
         }
-        let reply = self.read(alloc, limits, line)?;
-        let reply = reply.unwrap_or(Reply::ErrSyntax(number));
+        let reply = self.read(alloc, limits, number, line)?;
         Ok(reply.print(alloc)?)
     }
+}
+
+// Why the pending changes can't come behind the numbers below `next`.
+fn batch_refusal(next: u64, pending: &Batch) -> Option<Reply>
+    ensures { result ≡ batch_refusal next pending.now }
+{
+    let Some(first) = pending.get(0) else {
+        return Some(Reply::ErrEmpty);
+    };
+    if first.tx < next {
+        return Some(Reply::ErrOrder(next - 1, first.tx));
+    }
+    None
 }

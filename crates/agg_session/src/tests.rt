@@ -75,7 +75,7 @@ pub(crate) fn status_of_words<H: Threads + Wait + Clock + Sync, I: Source, O: Si
 }
 
 // The text gets these replies, where at most `most` bytes come at a time.
-fn expect_replies<H: Abort + Threads + Wait + Clock + Sync>(
+pub(crate) fn expect_replies<H: Abort + Threads + Wait + Clock + Sync>(
     rt: &H,
     alloc: Global,
     most: usize,
@@ -108,7 +108,7 @@ fn refused_lines_change_nothing_and_a_refused_commit_clears(rt: HostRuntime) -> 
     let text =
         b"tx 5\nput accounts aa 01\ncommit\ntx 5\nput accounts aa 02\ncommit\ncommit\ntx 8\ntx 7\nput accounts aa 03\ncommit\nput accounts aa 04\nmark accounts aa\nclose 9\n";
     let replies =
-        b"ok\nok\ncommitted 1 6\nok\nok\nerr syntax 6\nerr syntax 7\nok\nerr syntax 9\nok\ncommitted 1 9\nerr syntax 12\nerr syntax 13\nerr syntax 14\n";
+        b"ok\nok\ncommitted 1 6\nok\nok\nerr order 5 5\nerr empty\nok\nerr order 8 7\nok\ncommitted 1 9\nerr notx\nerr entity\nerr tx 9\n";
     expect_replies(&rt, rt.alloc(), 4096, text, replies)
 }
 
@@ -136,6 +136,6 @@ fn the_step_size_bounds_the_numbers(rt: HostRuntime) -> Result<(), Fail> {
     let words = words_of(alloc, &["run", "--step", "1"])?;
     let status = status_of_words(&rt, alloc, words.as_slice(), &mut source, &mut sink)?;
     assert_eq!(rt; status, Status::Done);
-    assert_eq!(rt; sink.bytes(), b"ok\nerr syntax 2\n".as_slice());
+    assert_eq!(rt; sink.bytes(), b"ok\nerr far 4096 4096\n".as_slice());
     Ok(())
 }

@@ -4,3 +4,4 @@ pub mod Cuts
 pub mod Feeds
 pub mod Numerals
 pub mod Pieces
+pub mod Names

@@ -13,4 +13,4 @@ pub use line_cut::{Cutting, LineCut};
 pub use lines::without_cr;
 pub use reply::Reply;
 pub use request::{LineError, Request};
-pub use words::number;
+pub use words::{PAGE_MOST, number};

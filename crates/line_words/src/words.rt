@@ -1,5 +1,8 @@
-ghost use Rattle.std.specs.Prelude.{◌≡◌, ◌^◌, ◌<◌, ◌⊎◌, [], ◌∷◌, IfOk, MatchOption, MatchResult, ok_or, All};
-ghost use Rattle.line_words.specs.Words.{words_of, number_of, bytes_of_word, entity_of_word};
+ghost use Rattle.std.specs.Prelude.{◌≡◌, ◌^◌, ◌<◌, ◌⊎◌, [], ◌∷◌, IfOk, IfSome, MatchOption, MatchResult, Ok, Err};
+ghost use Rattle.std.specs.Prelude.{ok_or, All};
+ghost use Rattle.line_words.specs.Words.{words_of, number_of, bytes_of_word, entity_of_word, number_end_of};
+ghost use Rattle.line_words.specs.Words.{key_end_of, limit_of_word, is_descending_of};
+ghost use Rattle.line_words.specs.Requests.{Takes, word, no_more, IsNumber, IsLimit};
 ghost use Rattle.line_words.specs.declared.request.LineError.TheVariants as errors;
 
 use crate::request::LineError;
@@ -9,7 +12,11 @@ use memchr::memchr;
 use std::alloc::Global;
 use std::marker::Model;
 
-/// The words of a line that are left to read.
+/// How many rows or numbers one reply has at most.
+pub const PAGE_MOST: u64 = 1_000;
+
+/// The words of a line that are left to read. Each step takes a word, and is `Syntax` where none is
+/// left or the word doesn't mean such a thing.
 #[derive(Drop)]
 pub(crate) struct Words<'a> {
     left: Option<&'a [u8]>,
@@ -47,6 +54,86 @@ impl<'a> Words<'a> {
             }
         }
     }
+
+    pub(crate) fn number(&mut self) -> Result<u64, LineError>
+        ensures exact { Takes result self.new (word number_of self.old) }
+        ensures within { IfOk result IsNumber }
+    {
+        let Some(word) = self.next() else {
+            return Err(LineError::Syntax);
+        };
+        number(word)
+    }
+
+    pub(crate) fn entity(&mut self) -> Result<Entity, LineError>
+        ensures { Takes result self.new (word entity_of_word self.old) }
+    {
+        let Some(word) = self.next() else {
+            return Err(LineError::Syntax);
+        };
+        entity(word)
+    }
+
+    pub(crate) fn bytes(&mut self, alloc: Global) -> Result<Bytes, LineError>
+        ensures exact { Takes result self.new (word bytes_of_word self.old) }
+        ensures bytes { IfOk result (All (λ b. b < 256)) }
+    {
+        let Some(word) = self.next() else {
+            return Err(LineError::Syntax);
+        };
+        bytes(alloc, word)
+    }
+
+    /// A number, or none at an open end.
+    pub(crate) fn number_end(&mut self) -> Result<Option<u64>, LineError>
+        ensures exact { Takes result self.new (word number_end_of self.old) }
+        ensures within { IfOk result (λ end. IfSome end IsNumber) }
+    {
+        let Some(word) = self.next() else {
+            return Err(LineError::Syntax);
+        };
+        number_end(word)
+    }
+
+    /// The bytes of a key, or none at an open end.
+    pub(crate) fn key_end(&mut self, alloc: Global) -> Result<Option<Bytes>, LineError>
+        ensures exact { Takes result self.new (word key_end_of self.old) }
+        ensures bytes { IfOk result (λ end. IfSome end (All (λ b. b < 256))) }
+    {
+        let Some(word) = self.next() else {
+            return Err(LineError::Syntax);
+        };
+        key_end(alloc, word)
+    }
+
+    pub(crate) fn limit(&mut self) -> Result<u64, LineError>
+        ensures exact { Takes result self.new (word limit_of_word self.old) }
+        ensures within { IfOk result IsLimit }
+    {
+        let Some(word) = self.next() else {
+            return Err(LineError::Syntax);
+        };
+        limit(word)
+    }
+
+    pub(crate) fn is_descending(&mut self) -> Result<bool, LineError>
+        ensures { Takes result self.new (word is_descending_of self.old) }
+    {
+        let Some(word) = self.next() else {
+            return Err(LineError::Syntax);
+        };
+        is_descending(word)
+    }
+
+    /// No word may be left.
+    pub(crate) fn end(&mut self) -> Result<(), LineError>
+        ensures { Takes result [] (no_more self.old) }
+    {
+        match self.next() {
+            Some(_) => Err(LineError::Syntax),
+            None => Ok(()),
+        }
+    }
 }
 
 /// The number that a word is: 1 to 19 decimal digits, at most 2^63 - 1. All else is `Syntax`.
@@ -72,7 +159,7 @@ pub fn number(word: &[u8]) -> Result<u64, LineError>
 }
 
 /// The bytes that a word spells.
-pub(crate) fn bytes(alloc: Global, word: &[u8]) -> Result<Bytes, LineError>
+fn bytes(alloc: Global, word: &[u8]) -> Result<Bytes, LineError>
     ensures exact { MatchResult result (λ b. ok_or (bytes_of_word word.now) errors.Syntax ≡ Ok b)
         (λ e. (e ≡ errors.Memory) ⊎ (ok_or (bytes_of_word word.now) errors.Syntax ≡ Err e)) }
     ensures bytes { IfOk result (All (λ b. b < 256)) }
@@ -86,13 +173,64 @@ pub(crate) fn bytes(alloc: Global, word: &[u8]) -> Result<Bytes, LineError>
     Ok(Bytes::from_vec(hex::decode(alloc, word)?))
 }
 
-/// The entity that a word names.
-#[tactic(auto, unfolding(crate::specs::Words::entity_of_word))]
-pub(crate) fn entity(word: &[u8]) -> Result<Entity, LineError>
+// The entity that a word names.
+fn entity(word: &[u8]) -> Result<Entity, LineError>
     ensures { result ≡ ok_or (entity_of_word word.now) errors.Syntax }
 {
-    if word == Entity::Accounts.name().as_bytes() {
-        return Ok(Entity::Accounts);
+    match Entity::of_name(word) {
+        Some(entity) => Ok(entity),
+        None => Err(LineError::Syntax),
+    }
+}
+
+// An end that is a number, or open.
+#[tactic(auto, unfolding(crate::specs::Words::open_or))]
+fn number_end(word: &[u8]) -> Result<Option<u64>, LineError>
+    ensures exact { result ≡ ok_or (number_end_of word.now) errors.Syntax }
+    ensures within { IfOk result (λ end. IfSome end IsNumber) }
+{
+    if word == b"-".as_slice() {
+        return Ok(None);
+    }
+    Ok(Some(number(word)?))
+}
+
+// An end that is a key, or open.
+#[tactic(auto, unfolding(crate::specs::Words::open_or))]
+fn key_end(alloc: Global, word: &[u8]) -> Result<Option<Bytes>, LineError>
+    ensures exact { MatchResult result (λ end. ok_or (key_end_of word.now) errors.Syntax ≡ Ok end)
+        (λ e. (e ≡ errors.Memory) ⊎ (ok_or (key_end_of word.now) errors.Syntax ≡ Err e)) }
+    ensures bytes { IfOk result (λ end. IfSome end (All (λ b. b < 256))) }
+{
+    if word == b"-".as_slice() {
+        return Ok(None);
+    }
+    Ok(Some(bytes(alloc, word)?))
+}
+
+// How many rows or numbers a page may have.
+#[tactic(auto, unfolding(crate::specs::Words::limit_of_word))]
+fn limit(word: &[u8]) -> Result<u64, LineError>
+    ensures exact { result ≡ ok_or (limit_of_word word.now) errors.Syntax }
+    ensures within { IfOk result IsLimit }
+{
+    let limit = number(word)?;
+    if limit < 1 || PAGE_MOST < limit {
+        return Err(LineError::Syntax);
+    }
+    Ok(limit)
+}
+
+// Whether the numbers of a page descend.
+#[tactic(auto, unfolding(crate::specs::Words::is_descending_of))]
+fn is_descending(word: &[u8]) -> Result<bool, LineError>
+    ensures { result ≡ ok_or (is_descending_of word.now) errors.Syntax }
+{
+    if word == b"asc".as_slice() {
+        return Ok(false);
+    }
+    if word == b"desc".as_slice() {
+        return Ok(true);
     }
     Err(LineError::Syntax)
 }

@@ -16,17 +16,17 @@ returns-then-is_empty-clause-exact g c = λ s stands.
 pub returns-in_err-print-clause-err : goal.returns-in_err-print-clause-err
 returns-in_err-print-clause-err g c = λ s stands.
     on_err c.from_residual-in_err-print.result _
-    (ends_after _ _ c.read.new.self c.args.number c.in_ok-reply.reply s (read_outcome c.args.limits.now (request_of c.args.line.now) s) _
+    (ends_after _ _ c.read.new.self c.in_ok-reply.reply s (read_outcome c.args.limits.now c.args.number (request_of c.args.line.now) s) _
     (short_effect-some c.args.limits.now c.args.number c.args.line.now s (some_bytes c.is_empty.result c.args.line.now c.is_empty.ensures c.if-is_empty.false))
     (c.in_ok-reply.ensures.exact s stands))
 
 pub returns-clause-exact : goal.returns-clause-exact
 returns-clause-exact g c = λ s stands.
-    effect_told _ _ c.read.new.self c.args.number c.unwrap_or-reply.result c.in_ok-reply.reply _
-    (read_outcome c.args.limits.now (request_of c.args.line.now) s) _
+    effect_told _ _ c.read.new.self c.in_ok-reply.reply _
+    (read_outcome c.args.limits.now c.args.number (request_of c.args.line.now) s) _
     (short_effect-some c.args.limits.now c.args.number c.args.line.now s (some_bytes c.is_empty.result c.args.line.now c.is_empty.ensures c.if-is_empty.false))
     (c.in_ok-reply.ensures.exact s stands)
-    c.unwrap_or-reply.ensures c.in_ok-print.ensures
+    c.in_ok-print.ensures
 
 pub returns-in_err-of-clause-err : goal.returns-in_err-of-clause-err
 returns-in_err-of-clause-err g c = λ s stands.

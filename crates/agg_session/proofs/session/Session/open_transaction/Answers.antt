@@ -12,5 +12,5 @@ returns-clause-sound g c =
     c.in_ok-number.ensures.opened
 
 pub returns-clause-view : goal.returns-clause-view
-returns-clause-view g c =
+returns-clause-view g c = λ n m is.
     opened_view c.args.self.now _ c.in_ok-number.field-0 c.in-Some.number c.open-view.result c.in-Some.is c.open-view.ensures c.in_ok-number.ensures.opened

@@ -16,10 +16,20 @@ returns-in-Close-clause-sound g c = c.close_transaction.ensures.sound c.args.lim
 pub returns-in-Settle-clause-sound : goal.returns-in-Settle-clause-sound
 returns-in-Settle-clause-sound g c = c.settle.ensures.sound c.args.limits.now c.requires.sound
 
-pub returns-in_err-put-in-Put-clause-err : goal.returns-in_err-put-in-Put-clause-err
-returns-in_err-put-in-Put-clause-err g c = λ s stands.
+pub returns-in_err-change-in-Put-clause-err : goal.returns-in_err-change-in-Put-clause-err
+returns-in_err-change-in-Put-clause-err g c = λ s stands.
     on_err c.from_residual.result _
-    (subst (λ x. Keeps g.D.Disk g.K.Keeper x s.list) (sym c.put.ensures.store) (kept g.D.Disk g.K.Keeper c.args.self.now.store s.list stands.list))
+    (subst (λ x. Keeps g.D.Disk g.K.Keeper x s.list) (sym c.change.ensures.store) (kept g.D.Disk g.K.Keeper c.args.self.now.store s.list stands.list))
+
+pub returns-in_err-change-in-Del-clause-err : goal.returns-in_err-change-in-Del-clause-err
+returns-in_err-change-in-Del-clause-err g c = λ s stands.
+    on_err c.from_residual-in_err-change-in-Del.result _
+    (subst (λ x. Keeps g.D.Disk g.K.Keeper x s.list) (sym c.change-in-Del.ensures.store) (kept g.D.Disk g.K.Keeper c.args.self.now.store s.list stands.list))
+
+pub returns-in_err-change-in-Mark-clause-err : goal.returns-in_err-change-in-Mark-clause-err
+returns-in_err-change-in-Mark-clause-err g c = λ s stands.
+    on_err c.from_residual-in_err-change-in-Mark.result _
+    (subst (λ x. Keeps g.D.Disk g.K.Keeper x s.list) (sym c.change-in-Mark.ensures.store) (kept g.D.Disk g.K.Keeper c.args.self.now.store s.list stands.list))
 
 pub returns-in_err-open_transaction-in-Open-clause-err : goal.returns-in_err-open_transaction-in-Open-clause-err
 returns-in_err-open_transaction-in-Open-clause-err g c = λ s stands.

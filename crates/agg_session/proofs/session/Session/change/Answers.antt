@@ -1,21 +1,20 @@
 use Rattle.std.proofs.Common.{All, subst, sym, ◌∙◌}
 use Rattle.agg_model.specs.declared.change.Change.{Change}
-use Rattle.agg_model.specs.declared.change.Act.TheVariants.{Put}
 use Rattle.agg_session.specs.declared.link.Link.{Link}
 use Rattle.agg_session.specs.declared.link.Transaction.{Transaction}
 use Rattle.plain_state.specs.Store.{HasView}
 use Rattle.agg_session.proofs.SessionLaws.{joined_link, on_true}
-use Rattle.agg_session.proofs.session.Session.put.Goals as goal
+use Rattle.agg_session.proofs.session.Session.change.Goals as goal
 
 pub returns-then-branch-clause-sound : goal.returns-then-branch-clause-sound
 returns-then-branch-clause-sound g c = λ sound.
-    let change : Change = record { tx = c.in-Some.tx; entity = c.args.entity; key = c.args.key; act = Put c.args.value } in
+    let change : Change = record { tx = c.in-Some.tx; entity = c.args.entity; key = c.args.key; act = c.args.act } in
     record {
       store = sound.store;
       views = subst (λ (l : Link). All (λ (t : Transaction). HasView c.args.self.now.store t.view) l.transactions)
           (sym (on_true c.in_ok-add.field-0 _ c.if-branch.true c.in_ok-add.ensures.added)) sound.views;
       link = joined_link c.args.limits.now _ c.args.self.now.link _ change sound.link c.in-Some.is
-          (record { act_fits = c.requires.domain; key = c.requires.key; value = c.requires.value })
+          (record { act_fits = c.requires.entity; key = c.requires.key; value = c.requires.value })
           (sym c.if-branch.true ∙ c.in_ok-add.ensures.could)
           (on_true c.in_ok-add.field-0 _ c.if-branch.true c.in_ok-add.ensures.added);
     }
