@@ -4,6 +4,7 @@
 set -eu
 program=$(realpath "$1")
 cd "$(dirname "$0")"
+. ./generated.sh
 work=$(mktemp -d)
 trap 'rm -rf "$work"' EXIT
 
@@ -27,12 +28,27 @@ called() {
 
 : >"$work/nothing"
 
-# Each example has its input, the words after the program's name, and its replies.
-for input in *.txt; do
+# Each example has its input, the words after the program's name, and its replies; so has each row.
+for input in *.txt rows/*.txt; do
   name=${input%.txt}
   read -ra words <"$name.words"
   called "$name" 0 "$name.out" "" "$input" "${words[@]}"
 done
+
+for name in lengths_at_their_borders longest_lines most_transactions; do
+  "$name" >"$work/input"
+  "${name}_replies" >"$work/replies"
+  called "$name" 0 "$work/replies" "" "$work/input" run
+done
+
+# The same transactions answered from rows alone, and from files and the rows behind them.
+transactions 1000 >"$work/input"
+transactions_replies >"$work/replies"
+called "transactions over rows" 0 "$work/replies" "" "$work/input" run
+transactions 50 >"$work/input"
+"$program" run --step 8 <"$work/input" | grep -v '^file \|^end$' >"$work/output"
+diff "$work/replies" "$work/output"
+echo "transactions over files and rows: as written down"
 
 called "the step in one word" 0 one_step.out "" one_step.txt run --step=4
 for words in "" "serve" "run --step" "run --step 0" "run --step=4 --step=4" "run --" "run 4"; do

@@ -105,18 +105,6 @@ fn one_complete_step_is_kept_in_a_file(rt: HostRuntime) -> Result<(), Fail> {
     expect_names(&rt, alloc, &run.disk, &[b"v1-accounts.0-1.kv"])
 }
 
-#[test]
-fn a_transaction_keeps_the_files_of_its_opening(rt: HostRuntime) -> Result<(), Fail> {
-    let text =
-        b"tx 0\nput accounts aa 01\ntx 4\nput accounts bb 02\ncommit\nopen\nsettle\ntx 8\nput accounts aa 03\ntx 9\nput accounts bb 04\ncommit\nsettle\nlatest 1 accounts aa\nlatest 1 accounts bb\nopen\nlatest 2 accounts aa\nlatest 2 accounts bb\nlatest 2 accounts cc\n";
-    let replies =
-        b"ok\nok\nok\nok\ncommitted 2 5\nopened 1 5\nfile v1-accounts.0-1.kv\nend\nok\nok\nok\nok\ncommitted 2 10\nfile v1-accounts.0-1.kv\nfile v1-accounts.1-2.kv\nend\nvalue 01\nvalue 02\nopened 2 10\nvalue 03\nvalue 04\nnone\n";
-    let run = run_over(&rt, rt.alloc(), 4, &[], text)?;
-    assert_eq!(rt; run.status, Status::Done);
-    assert_eq!(rt; run.replies.as_slice(), replies.as_slice());
-    Ok(())
-}
-
 // Another step that is complete at the end of the input.
 const TWO_STEPS: &[u8] =
     b"tx 0\nput accounts aa 01\ntx 5\nput accounts bb 02\ncommit\nsettle\ntx 8\nput accounts aa 03\ncommit\n";
@@ -174,82 +162,4 @@ fn the_end_of_the_input_settles_too(rt: HostRuntime) -> Result<(), Fail> {
         &run.disk,
         &[b"v1-accounts.0-1.kv", b"v1-accounts.1-2.kv"],
     )
-}
-
-fn push_number(alloc: Global, text: &mut Vec<u8>, n: u64) -> Result<(), Memory> {
-    let digits = n.to_string(alloc)?;
-    text.extend_from_slice(digits.as_bytes())?;
-    Ok(())
-}
-
-// A transaction: one put of a key of two digits, and a look at another that may have been put long
-// before. Its numbers stand for the letters from A on.
-const TRANSACTION: &[u8] = b"tx A\nput accounts B C\ncommit\nopen\nlatest D accounts E\nclose D\n";
-
-// The numbers of the `i`th transaction; those of `tx` go through 40 steps of eight.
-fn numbers_of(i: u64) -> [u64; 5]
-    requires { i < 300 }
-{
-    [
-        i + (i + 1) / 15,
-        10 + 7 * i % 83,
-        10 + i % 90,
-        i + 1,
-        10 + i % 89,
-    ]
-}
-
-fn push_transaction(alloc: Global, text: &mut Vec<u8>, numbers: [u64; 5]) -> Result<(), Memory> {
-    for byte in TRANSACTION {
-        if (b'A'..=b'E').contains(byte) {
-            push_number(alloc, text, numbers[(*byte - b'A') as usize])?;
-        } else {
-            text.push(*byte)?;
-        }
-    }
-    Ok(())
-}
-
-// All 300 of them.
-fn transactions(alloc: Global, settles: bool) -> Result<Vec<u8>, Memory> {
-    let mut text = Vec::new(alloc);
-    for i in 0..300 {
-        push_transaction(alloc, &mut text, numbers_of(i))?;
-        if settles && i % 50 == 49 {
-            text.extend_from_slice(b"settle\n")?;
-        }
-    }
-    Ok(text)
-}
-
-// The replies without those to `settle`.
-fn without_files(alloc: Global, replies: &[u8]) -> Result<Vec<u8>, Memory> {
-    let mut kept = Vec::new(alloc);
-    for line in replies.split(|byte| *byte == b'\n') {
-        if !line.starts_with(b"file ") && line != b"end".as_slice() && !line.is_empty() {
-            kept.extend_from_slice(line)?;
-            kept.push(b'\n')?;
-        }
-    }
-    Ok(kept)
-}
-
-#[test]
-fn files_and_rows_answer_as_rows_alone(rt: HostRuntime) -> Result<(), Fail> {
-    let alloc = rt.alloc();
-    let settled = transactions(alloc, true)?;
-    let plain = transactions(alloc, false)?;
-    let files = run_over(&rt, alloc, 8, &[], settled.as_slice())?;
-    let rows = run_over(&rt, alloc, 1_562_500, &[], plain.as_slice())?;
-    assert_eq!(rt; files.status, Status::Done);
-    assert_eq!(rt; rows.status, Status::Done);
-    assert_eq!(rt; files.disk.files().len(), 40);
-    assert_eq!(rt; rows.disk.files().len(), 0);
-    let kept = without_files(alloc, files.replies.as_slice())?;
-    assert_eq!(rt; kept.as_slice(), rows.replies.as_slice());
-    // As the plain list of changes gives them, worked out apart.
-    let replies = rows.replies.as_slice();
-    assert_eq!(rt; replies.len(), 14_152);
-    assert!(rt; replies.ends_with(b"opened 300 320\nvalue 48\nok\n".as_slice()));
-    Ok(())
 }

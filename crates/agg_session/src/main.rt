@@ -9,8 +9,6 @@ mod ends;
 mod file_tests;
 mod limits;
 mod link;
-#[cfg(test)]
-mod refusal_tests;
 mod run;
 mod served;
 mod session;

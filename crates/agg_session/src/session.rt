@@ -14,14 +14,11 @@ ghost use Rattle.agg_session.specs.Running.{IsSession, Stands, Answers, HasEffec
 
 use crate::limits::Limits;
 use crate::link::{Link, Transaction};
-use agg_model::{Act, Batch, Change, Entity};
+use agg_model::{Act, Batch, Change, Entity, STEPS_MOST};
 use agg_outside::{Bytes, Disk, Keeper, Memory};
 use line_words::{LineError, Reply, Request};
 use plain_state::{Stop, Store};
 use std::alloc::Global;
-
-/// How many steps there are at most.
-const STEPS: u64 = 4096;
 
 /// The accepted changes, and what the link keeps beside them.
 #[derive(Drop)]
@@ -40,7 +37,7 @@ impl<D: Disk, K: Keeper> Session<D, K> {
             Answers D.Disk K.Keeper self.new result (number_on number s) }
         ensures store { self.new.store ≡ self.old.store }
     {
-        match self.link.set_number(number, STEPS * self.store.size()) {
+        match self.link.set_number(number, STEPS_MOST * self.store.size()) {
             Ok(()) => Reply::Ok,
             Err(refusal) => refusal,
         }

@@ -1,4 +1,4 @@
-ghost use Rattle.std.specs.Prelude.{◌≡◌, ◌≤◌, IfOk};
+ghost use Rattle.std.specs.Prelude.{◌≡◌, ◌≤◌, ◌^◌, IfOk};
 ghost use Rattle.agg_session.specs.Top.{empty_held};
 ghost use Rattle.memory_side.specs.MemoryKeepers.{mem_held};
 
@@ -17,21 +17,24 @@ pub(crate) const FIRST_PATH: &[u8] =
 
 pub(crate) const FIRST_REPLIES: &[u8] = b"ok\nok\ncommitted 1 1\nopened 1 1\nvalue 01\nnone\nok\n";
 
-// A run at the usual step size and limits, over an empty disk and keeper.
+// A run at the usual step size, over an empty disk and keeper.
 fn status_of_run<H: Threads + Wait + Clock + Sync, I: Source, O: Sink>(
     rt: &H,
     alloc: Global,
+    limits: &Limits,
     source: &mut I,
     sink: &mut O,
-) -> Result<Status, Memory> {
+) -> Result<Status, Memory>
+    requires limit { limits.now.content ≤ 2 ^ 28 }
+    requires bytes { limits.now.bytes ≤ 2 ^ 40 }
+{
     let disk = SureDisk::new(alloc, &FileMap::new(alloc))?;
     let rows = KeeperStart {
         rows: Rowlist::new(alloc),
         floor: 0,
     };
     let keeper = SureKeeper::new(alloc, &rows)?;
-    let limits = Limits::usual();
-    Ok(run_plain(rt, alloc, disk, keeper, 1_562_500, &limits, source, sink).status)
+    Ok(run_plain(rt, alloc, disk, keeper, 1_562_500, limits, source, sink).status)
 }
 
 // A keeper without a row, of which these calls fail.
@@ -75,20 +78,23 @@ pub(crate) fn status_of_words<H: Threads + Wait + Clock + Sync, I: Source, O: Si
 }
 
 // The text gets these replies, where at most `most` bytes come at a time.
-pub(crate) fn expect_replies<H: Abort + Threads + Wait + Clock + Sync>(
+fn expect_replies<H: Abort + Threads + Wait + Clock + Sync>(
     rt: &H,
     alloc: Global,
+    limits: &Limits,
     most: usize,
     text: &[u8],
     replies: &[u8],
 ) -> Result<(), Fail>
-    requires { 1 ≤ most }
+    requires some { 1 ≤ most }
+    requires limit { limits.now.content ≤ 2 ^ 28 }
+    requires bytes { limits.now.bytes ≤ 2 ^ 40 }
 {
     let mut source = SureSource::new(alloc, text)?;
     source.piece(most);
     let mut sink = SureSink::new(alloc, &[])?;
     assert_eq!(rt;
-        status_of_run(rt, alloc, &mut source, &mut sink)?,
+        status_of_run(rt, alloc, limits, &mut source, &mut sink)?,
         Status::Done
     );
     assert_eq!(rt; sink.bytes(), replies);
@@ -98,34 +104,36 @@ pub(crate) fn expect_replies<H: Abort + Threads + Wait + Clock + Sync>(
 #[test]
 fn pieces_of_any_length_get_the_same_replies(rt: HostRuntime) -> Result<(), Fail> {
     let alloc = rt.alloc();
-    expect_replies(&rt, alloc, 1, FIRST_PATH, FIRST_REPLIES)?;
-    expect_replies(&rt, alloc, 4096, FIRST_PATH, FIRST_REPLIES)?;
-    expect_replies(&rt, alloc, 4096, b"", b"")
+    let limits = Limits::usual();
+    expect_replies(&rt, alloc, &limits, 1, FIRST_PATH, FIRST_REPLIES)?;
+    expect_replies(&rt, alloc, &limits, 4096, FIRST_PATH, FIRST_REPLIES)
 }
 
-#[test]
-fn refused_lines_change_nothing_and_a_refused_commit_clears(rt: HostRuntime) -> Result<(), Fail> {
-    let text =
-        b"tx 5\nput accounts aa 01\ncommit\ntx 5\nput accounts aa 02\ncommit\ncommit\ntx 8\ntx 7\nput accounts aa 03\ncommit\nput accounts aa 04\nmark accounts aa\nclose 9\n";
-    let replies =
-        b"ok\nok\ncommitted 1 6\nok\nok\nerr order 5 5\nerr empty\nok\nerr order 8 7\nok\ncommitted 1 9\nerr notx\nerr entity\nerr tx 9\n";
-    expect_replies(&rt, rt.alloc(), 4096, text, replies)
-}
+// Each of the two puts has a content of 100.
+const TWO_BATCHES: &[u8] =
+    b"tx 1\nput accounts aa 0101010101010101010101010101010101010101010101010101010101010101010101\ncommit\ntx 2\nput accounts aa 0101010101010101010101010101010101010101010101010101010101010101010101\ncommit\n\
+tx 3\nput accounts aa 01\ncommit\ntx 2\nput accounts aa 01\ncommit\n";
+
+const TWO_BATCHES_REPLIES: &[u8] =
+    b"ok\nok\ncommitted 1 2\nok\nok\ncommitted 1 3\nok\nok\nerr limit\nok\nok\nerr order 2 2\n";
+
+const ONE_BATCH: &[u8] =
+    b"tx 1\nput accounts aa 0101010101010101010101010101010101010101010101010101010101010101010101\nput accounts aa 0101010101010101010101010101010101010101010101010101010101010101010101\ndel code aa\n\
+mark logaddrs aa\ncommit\ndel code aa\n";
+
+const ONE_BATCH_REPLIES: &[u8] = b"ok\nok\nok\nerr limit\nerr limit\ncommitted 1 2\nerr notx\n";
 
 #[test]
-fn line_ends_and_spaces_are_those_of_the_grammar(rt: HostRuntime) -> Result<(), Fail> {
-    let text =
-        b"tx 1\r\nput accounts AA 0F\r\ncommit\r\nopen\r\nlatest  1 accounts aa\r\nlatest 1 accounts a\r\n\r\nlatest 1 accounts aa";
-    let replies = b"ok\nok\ncommitted 1 2\nopened 1 2\nerr syntax 5\nerr syntax 6\nvalue 0f\n";
-    expect_replies(&rt, rt.alloc(), 4096, text, replies)
-}
-
-#[test]
-fn of_two_puts_in_one_transaction_the_last_stands(rt: HostRuntime) -> Result<(), Fail> {
-    let text =
-        b"tx 3\nput accounts aa 01\nput accounts aa 02\ncommit\nopen\nlatest 1 accounts aa\n";
-    let replies = b"ok\nok\nok\ncommitted 1 4\nopened 1 4\nvalue 02\n";
-    expect_replies(&rt, rt.alloc(), 4096, text, replies)
+fn the_list_and_the_pending_changes_have_content_up_to_the_limit(
+    rt: HostRuntime,
+) -> Result<(), Fail> {
+    let limits = Limits {
+        content: 200,
+        ..Limits::usual()
+    };
+    let alloc = rt.alloc();
+    expect_replies(&rt, alloc, &limits, 4096, TWO_BATCHES, TWO_BATCHES_REPLIES)?;
+    expect_replies(&rt, alloc, &limits, 4096, ONE_BATCH, ONE_BATCH_REPLIES)
 }
 
 #[test]

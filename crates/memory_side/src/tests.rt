@@ -127,19 +127,14 @@ fn disks_list_in_order_read_and_rename_over_a_file(rt: HostRuntime) -> Result<()
 fn a_call_of_a_disk_that_fails_changes_nothing(rt: HostRuntime) -> Result<(), Fail> {
     let alloc = rt.alloc();
     let start = FileMap::new(alloc);
-    let mut disk = MemDisk::new(alloc, &start, &[8, 2, 6, 4])?;
+    let mut disk = MemDisk::new(alloc, &start, &[5, 2, 4, 3])?;
     assert!(rt; disk.write_new(alloc, b"a", b"1").is_ok());
     assert!(rt; disk.write_new(alloc, b"c", b"").is_err());
-    assert_eq!(rt; disk.list(alloc).map_or(0, |names| names.len()), 1);
-    assert!(rt; disk.files().find(b"a").is_some());
     assert!(rt; disk.rename(alloc, b"a", b"b").is_err());
-    assert!(rt; disk.files().find(b"a").is_some());
-    assert!(rt; disk.rename(alloc, b"a", b"b").is_ok());
-    assert!(rt; disk.remove(alloc, b"b").is_err());
-    assert!(rt; disk.files().find(b"b").is_some());
-    assert!(rt; disk.remove(alloc, b"b").is_ok());
+    assert!(rt; disk.remove(alloc, b"a").is_err());
     assert!(rt; disk.list(alloc).is_err());
-    assert_eq!(rt; disk.files().len(), 0);
+    assert_eq!(rt; disk.files().len(), 1);
+    assert!(rt; disk.files().find(b"a").is_some());
     Ok(())
 }
 
@@ -241,17 +236,6 @@ fn no_rows(alloc: Global) -> KeeperStart
 }
 
 #[tactic(auto, unfolding(agg_outside::specs::Rows::id_cmp))]
-fn additions(alloc: Global) -> Result<Vec<RowWrite>, Memory>
-    ensures { IfOk result (λ writes. CanApply writes.items (record { rows = []; floor = 0 })) }
-{
-    let mut writes = Vec::new(alloc);
-    writes.push(RowWrite::Insert(row_of(alloc, b"d", 2)?))?;
-    writes.push(RowWrite::Floor(6))?;
-    writes.push(RowWrite::Insert(row_of(alloc, b"b", 1)?))?;
-    Ok(writes)
-}
-
-#[tactic(auto, unfolding(agg_outside::specs::Rows::id_cmp))]
 fn four_writes(alloc: Global) -> Result<Vec<RowWrite>, Memory>
     ensures { IfOk result (λ writes. CanApply writes.items (record { rows = []; floor = 0 })) }
 {
@@ -298,15 +282,11 @@ fn apply_makes_all_four_writes_in_order(rt: HostRuntime) -> Result<(), Fail> {
 }
 
 #[test]
-fn a_tree_takes_additions_alone_and_changes_alone(rt: HostRuntime) -> Result<(), Fail> {
+fn a_tree_takes_changes_alone(rt: HostRuntime) -> Result<(), Fail> {
     let alloc = rt.alloc();
-    let mut sure = SureKeeper::new(alloc, &no_rows(alloc))?;
-    let rows = applied(alloc, &mut sure, &additions(alloc)?)?;
-    assert_eq!(rt; rows.len(), 2);
-    assert!(rt; rows.get(0).is_some_and(|row| row.id.tx == 1));
-    assert_eq!(rt; sure.rows(alloc)?.len(), 2);
     let (start, writes) = changes(alloc)?;
     let mut sure = SureKeeper::new(alloc, &start)?;
     assert!(rt; is_killed_alone(&applied(alloc, &mut sure, &writes)?));
+    assert_eq!(rt; sure.rows(alloc)?.len(), 1);
     Ok(())
 }
