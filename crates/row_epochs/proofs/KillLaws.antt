@@ -15,12 +15,12 @@ use Rattle.agg_outside.specs.declared.rows.RowWrite.{RowWrite}
 use Rattle.agg_outside.specs.Rows.{Held, id_cmp, is_before, is_same, ascends, ascends_after, row_at, rows_from, kill_row, insert_row, applied}
 use Rattle.agg_outside.specs.RowOrder.{id_cmp_total, same_itself, before_not_same, three_ways, ascends-after, ascends_after-before, kill-after, kill-ascends, row_at-after}
 use Rattle.agg_model.specs.declared.change.Change.{Change}
-use Rattle.row_epochs.specs.Seen.{is_dead, dead, without_dead}
+use Rattle.row_epochs.specs.Seen.{dead, without_dead}
 use Rattle.row_epochs.specs.Changes.{row_born, writes_of, kills_of}
 use Rattle.row_epochs.specs.Places.{ids_of, first_place}
 use Rattle.row_epochs.specs.Versions.{AreVersions, IsAlive}
 use Rattle.row_epochs.specs.Kills.{is_killed, kill_of, kills_in, AreKillsNoted, dead_kills, later_kills, noted, with_kills}
-use Rattle.row_epochs.proofs.WriteLaws.{insert-filtered, alive_there, kill_row-map, row_at-kill}
+use Rattle.row_epochs.proofs.WriteLaws.{insert-filtered, alive_there, kill_row-map, row_at-kill, dead_test}
 use Rattle.row_epochs.proofs.RowWalks.{rows_from-first}
 use Rattle.row_epochs.proofs.Answering.{fall}
 
@@ -179,10 +179,6 @@ noted_first es place rs none first s =
     ∙ noted-is [] rs s (All-nil (λ (e : RowId × ℕ). ascends_after e.0 rs ≡ true))
 
 -- ---- what is dead, and what is left
-
-dead_test : (oldest : ℕ) (r : Row) → is_dead oldest r ≡ (is_killed r && nat_le r.killed oldest)
-unfolding is_dead
-dead_test oldest r = refl
 
 dead_by : (oldest : ℕ) (r : Row) (rs : List Row) (t u : Bool) → nat_le r.killed oldest ≡ u → dead_kills oldest (kills_in rs) ≡ ids_of (dead oldest rs)
     → dead_kills oldest (map kill_of (cond t (r ∷ filter is_killed rs) (filter is_killed rs))) ≡ ids_of (cond (t && u) (r ∷ dead oldest rs) (dead oldest rs))

@@ -741,7 +741,7 @@ dead_unseen_by oldest v r false true e f h up =
     and_false false = refl
 dead_unseen_by oldest v r false false e f h up = cc h
 
-dead_test : (oldest : ℕ) (r : Row) → is_dead oldest r ≡ (not (r.killed == 0) && nat_le r.killed oldest)
+pub dead_test : (oldest : ℕ) (r : Row) → is_dead oldest r ≡ (not (r.killed == 0) && nat_le r.killed oldest)
 unfolding is_dead
 dead_test oldest r = refl
 

@@ -19,7 +19,6 @@ use agg_outside::{Keeper, Memory, Row, RowId, Rowlist};
 use std::alloc::Global;
 use std::collections::BTreeMap;
 
-
 /// When each killed row was killed.
 pub type Kills = BTreeMap<RowId, u64>;
 
