@@ -216,7 +216,7 @@ fn an_open_view_keeps_what_is_pruned(rt: HostRuntime) -> Result<(), Fail> {
 
 #[test]
 fn a_keeper_that_fails_at_any_call_is_blamed(rt: HostRuntime) -> Result<(), Fail> {
-    for fails in 1..14 {
+    for fails in 1..13 {
         let mut hot = opened(rt.alloc(), fails);
         let done = prune_twice(&mut hot, rt.alloc());
         assert!(rt; matches!(done, Err(RowsError::Keeper)));
