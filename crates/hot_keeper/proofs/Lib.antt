@@ -1,3 +1,4 @@
+pub mod AheadLaws
 pub mod KeyLaws
 pub mod NoteLaws
 pub mod PieceLaws

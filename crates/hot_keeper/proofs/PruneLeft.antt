@@ -120,7 +120,7 @@ all_high tx (r ∷ rs) is =
     let parts = high_by tx r rs (is_alive r) (has_low_number tx r) refl refl is in
     All-cons (λ (x : Row). x.killed ≡ 0 → tx ≤ x.id.tx) r rs parts.0 (all_high tx rs parts.1)
 
-drop-all : {A : Type 0} (n : ℕ) (xs : List A) → length xs ≤ n → drop n xs ≡ []
+pub drop-all : {A : Type 0} (n : ℕ) (xs : List A) → length xs ≤ n → drop n xs ≡ []
 drop-all zero [] h = refl
 drop-all (suc n) [] h = refl
 drop-all zero (x ∷ xs) h = absurd (omega arith)

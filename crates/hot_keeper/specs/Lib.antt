@@ -2,4 +2,5 @@ pub mod Errors
 pub mod NoteOrder
 pub mod Notes
 pub mod Pruning
+pub mod ReadAhead
 pub mod Windows

@@ -12,6 +12,7 @@ ghost use Rattle.row_epochs.specs.Versions.{AreVersions};
 ghost use Rattle.hot_keeper.specs.Windows.{act_of_change, window_times, window_keys, changes_of_step};
 ghost use Rattle.hot_keeper.specs.Pruning.{low_rows, does_prune, pruned, epoch_pruned};
 
+use crate::ahead::{ReadAhead, keep_ahead};
 use crate::keys::keys_within;
 use crate::notes::{Notes, drop_below, note_batch};
 use crate::pruning::{Low, Pruned, kill_first, look_low};
@@ -29,19 +30,23 @@ pub struct Hot<K: Keeper> {
     rows: Rows<K>,
     /// Each alive row by its number, once a step has been asked for.
     notes: Option<Notes>,
+    /// The rows of the next prunes, once one has left some.
+    ahead: Option<ReadAhead>,
 }
 
 impl<K: Keeper> Model for Hot<K> {
     ghost use Rattle.std.specs.Prelude.{IfSome};
     ghost use Rattle.row_epochs.specs.Versions.{Versions, AreVersions};
     ghost use Rattle.hot_keeper.specs.Notes.{AreNoted};
+    ghost use Rattle.hot_keeper.specs.ReadAhead.{AreAhead};
 
     ghost Value = { Versions };
 
     ghost view = { λ h. h.rows };
 
     ghost invariant = { λ h. IfSome h.rows.told (AreVersions h.rows.epoch)
-        × IfSome h.rows.told (λ k. AreNoted h.notes k.rows) };
+        × IfSome h.rows.told (λ k. AreNoted h.notes k.rows)
+        × IfSome h.rows.told (λ k. AreAhead h.ahead k.rows) };
 }
 
 impl<K: Keeper> Hot<K> {
@@ -50,7 +55,11 @@ impl<K: Keeper> Hot<K> {
     {
         // That the rows are in order is a clause of this call.
         let _present = rows.epoch();
-        Hot { rows, notes: None }
+        Hot {
+            rows,
+            notes: None,
+            ahead: None,
+        }
     }
 
     pub fn into_rows(self) -> Rows<K>
@@ -98,6 +107,7 @@ impl<K: Keeper> Hot<K> {
     {
         let next = self.rows.epoch() + 1;
         note_batch(alloc, &mut self.notes, next, batch);
+        keep_ahead(&mut self.ahead, batch);
         self.rows.write(alloc, batch)
     }
 
@@ -199,7 +209,8 @@ impl<K: Keeper> Hot<K> {
 
     /// Kills the first `limit` alive rows with numbers below `tx`, in row order, and sets the floor, in one
     /// write of the keeper at the raised epoch. Where there is no such row and the floor stands already,
-    /// nothing is written.
+    /// nothing is written. Calls with one number go over each row once together: what a piece has more than
+    /// the call kills is kept for the next one, which reads on from there.
     pub fn kill_below(
         &mut self,
         alloc: Global,
@@ -227,7 +238,7 @@ impl<K: Keeper> Hot<K> {
             (λ h. OnOk result (does_prune tx floor limit h ≡ false)) }
         ensures cause { HasCause RowsError.Keeper self.old.faults self.new.faults result }
     {
-        let pruned = kill_first(&mut self.rows, alloc, tx, floor, limit)?;
+        let pruned = kill_first(&mut self.rows, &mut self.ahead, alloc, tx, floor, limit)?;
         if pruned.left == 0 {
             drop_below(alloc, &mut self.notes, tx);
         }
@@ -245,7 +256,8 @@ impl<K: Keeper> Hot<K> {
         look_low(&mut self.rows, alloc, tx)
     }
 
-    /// Removes exactly the rows that were killed at `oldest` or before, and answers how many.
+    /// Removes exactly the rows that were killed at `oldest` or before, and answers how many. The first call
+    /// goes over all rows, each later one over killed rows alone.
     pub fn purge(&mut self, alloc: Global, oldest: u64) -> Result<u64, RowsError>
         ensures ok { IfSome self.old.told
             (λ h. OnOk result (self.new.told ≡ Some (record h { rows = without_dead oldest h.rows }))) }

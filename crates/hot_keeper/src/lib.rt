@@ -2,6 +2,7 @@
 //! belongs to a step, and which rows are killed once files cover them.
 #![tactic(auto)]
 
+mod ahead;
 mod error;
 mod hot;
 mod keys;

@@ -6,8 +6,10 @@ ghost use Rattle.row_epochs.specs.Errors.{IsWorn, IsUnworn};
 ghost use Rattle.row_epochs.specs.Seen.{SameUpTo};
 ghost use Rattle.row_epochs.specs.Versions.{AreVersions};
 ghost use Rattle.hot_keeper.specs.Pruning.{low_rows, does_prune, pruned, epoch_pruned};
+ghost use Rattle.hot_keeper.specs.ReadAhead.{AreAhead};
 
-use crate::pieces::{FirstIds, count_below, first_below};
+use crate::ahead::{FirstIds, ReadAhead};
+use crate::pieces::{count_below, first_below};
 use agg_outside::{Keeper, RowId};
 use row_epochs::{Rows, RowsError};
 use std::alloc::Global;
@@ -47,12 +49,14 @@ fn left_of(more: bool) -> u64
 /// that changes anything.
 pub fn kill_first<K: Keeper>(
     rows: &mut Rows<K>,
+    ahead: &mut Option<ReadAhead>,
     alloc: Global,
     tx: u64,
     floor: u64,
     limit: usize,
 ) -> Result<Pruned, RowsError>
-    requires { IfSome rows.old.told (AreVersions rows.old.epoch) }
+    requires versions { IfSome rows.old.told (AreVersions rows.old.epoch) }
+    requires ahead { IfSome rows.old.told (λ h. AreAhead ahead.old h.rows) }
     ensures ok { IfSome rows.old.told
         (λ h. OnOk result (rows.new.told ≡ Some (pruned (rows.old.epoch + 1) tx floor limit h))) }
     ensures earlier { IfSome rows.old.told
@@ -71,9 +75,11 @@ pub fn kill_first<K: Keeper>(
     ensures rises { rows.old.epoch ≡ 2 ^ 62 → IfSome rows.old.told
         (λ h. OnOk result (does_prune tx floor limit h ≡ false)) }
     ensures cause { HasCause RowsError.Keeper rows.old.faults rows.new.faults result }
+    ensures ahead { IfSome rows.new.told (λ k. AreAhead ahead.new k.rows) }
 {
-    let low = first_below(rows, alloc, tx, limit)?;
-    let FirstIds { ids, more } = low;
+    let before = ahead.take();
+    let low = first_below(rows, alloc, before, tx, limit)?;
+    let FirstIds { ids, more, rest } = low;
     let present = rows.floor()?;
     let dead = ids.as_slice();
     let pruned = Pruned {
@@ -81,9 +87,11 @@ pub fn kill_first<K: Keeper>(
         left: left_of(more),
     };
     if !does_prune(dead, floor, present) {
+        *ahead = Some(rest);
         return Ok(pruned);
     }
     rows.kill(alloc, dead, floor)?;
+    *ahead = Some(rest);
     Ok(pruned)
 }
 

@@ -13,6 +13,10 @@ use std::alloc::Global;
 /// Kills the first `limit` alive rows, in row order, of steps below `end`, where a step has `size` numbers,
 /// and sets the floor to `end`; then removes the rows that were killed at `oldest` or before. An error of
 /// the removal leaves the kills done.
+///
+/// While no view is open, calls with one `end` go over each row once together, those that are kept among
+/// them, and over each killed row once more, however small `limit` is: a call reads on where the one before
+/// stopped, and removals go over notes of the killed rows, for which the first one goes over all rows.
 pub fn prune_some<K: Keeper>(
     alloc: Global,
     hot: &mut Hot<K>,

@@ -4,7 +4,7 @@ ghost use Rattle.agg_model.specs.Batch.{HasNoRepeats};
 use super::*;
 use crate::plain_keeper::PlainKeeper;
 use agg_model::{Act, Batch, Change, Entity};
-use agg_outside::{Bytes, Memory, Numbers};
+use agg_outside::{Bytes, Memory, Numbers, RowId};
 use hot_keeper::{Hot, Low, Pruned};
 use row_epochs::{Rows, RowsError, first_place};
 use std::alloc::Global;
@@ -117,12 +117,14 @@ fn times_at(
     hot.times(alloc, epoch, Entity::Accounts, &[key], 0, ROWS, back, 500)
 }
 
-// Kills all rows below 200 while the epoch before is open.
+// Kills all rows below 200, at most 60 at a time, while the epoch before is open.
 fn prune_to_200(hot: &mut Hot<PlainKeeper>, alloc: Global) -> Result<u64, RowsError>
     requires { hot.old.told ≡ None }
 {
     let open = hot.epoch();
-    let _pruned = prune_some(alloc, hot, 4, 50, open, 1000)?;
+    for _round in 0..4 {
+        let _pruned = prune_some(alloc, hot, 4, 50, open, 60)?;
+    }
     Ok(open)
 }
 
@@ -172,6 +174,31 @@ fn steps_keys_and_views_answer_what_is_there(rt: HostRuntime) -> Result<(), Fail
     Ok(())
 }
 
+// Whether the rows have a change of the key 7 at an epoch.
+fn has_seven(rows: &mut Rows<PlainKeeper>, alloc: Global, epoch: u64) -> Result<bool, RowsError> {
+    let change = rows.view_last(alloc, epoch, Entity::Accounts, &[7], 0, 9)?;
+    Ok(change.is_some())
+}
+
+#[test]
+fn a_killed_row_is_seen_up_to_its_kill(rt: HostRuntime) -> Result<(), Fail> {
+    let mut rows = Rows::of(PlainKeeper::new(rt.alloc(), 0), 0);
+    let batch = put_of(rt.alloc(), 2, 7, 1)?;
+    assert_eq!(rt; rows.write(rt.alloc(), &batch), Ok(()));
+    let id = RowId {
+        entity: 0,
+        key: Bytes::of(rt.alloc(), &[7])?,
+        tx: 2,
+        born: 1,
+    };
+    assert_eq!(rt; rows.kill(rt.alloc(), &[id], 3), Ok(()));
+    assert!(rt; !has_seven(&mut rows, rt.alloc(), 0)?);
+    assert!(rt; has_seven(&mut rows, rt.alloc(), 1)?);
+    assert!(rt; !has_seven(&mut rows, rt.alloc(), 2)?);
+    assert_eq!(rt; rows.floor(), Ok(3));
+    Ok(())
+}
+
 #[test]
 fn an_open_view_keeps_what_is_pruned(rt: HostRuntime) -> Result<(), Fail> {
     let mut hot = opened(rt.alloc(), 0);
@@ -189,7 +216,7 @@ fn an_open_view_keeps_what_is_pruned(rt: HostRuntime) -> Result<(), Fail> {
 
 #[test]
 fn a_keeper_that_fails_at_any_call_is_blamed(rt: HostRuntime) -> Result<(), Fail> {
-    for fails in 1..14 {
+    for fails in 1..13 {
         let mut hot = opened(rt.alloc(), fails);
         let done = prune_twice(&mut hot, rt.alloc());
         assert!(rt; matches!(done, Err(RowsError::Keeper)));

@@ -1,4 +1,5 @@
 pub mod Answering
+pub mod KillLaws
 pub mod LastWalks
 pub mod PieceWalks
 pub mod RowWalks

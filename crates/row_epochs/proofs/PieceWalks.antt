@@ -32,11 +32,3 @@ taken_all limit found more short full =
 
 pub length-taken : {A : Type 0} (limit : ℕ) (xs : List A) → length (take limit xs) ≤ limit
 length-taken limit xs = omega (arith, length-take limit xs)
-
--- what is dead in two parts
-pub dead_on : (oldest : ℕ) (found new : List RowId) (piece rest all : List Row) → new ≡ found ++ ids_of (dead oldest piece) → all ≡ piece ++ rest → new ++ ids_of (dead oldest rest) ≡ found ++ ids_of (dead oldest all)
-dead_on oldest found new piece rest all is whole =
-    ap (λ (l : List RowId). l ++ ids_of (dead oldest rest)) is
-    ∙ append_assoc found (ids_of (dead oldest piece)) (ids_of (dead oldest rest))
-    ∙ ap (λ (l : List RowId). found ++ l)
-    (sym (map-append (λ (r : Row). r.id) (dead oldest piece) (dead oldest rest)) ∙ ap ids_of (sym (filter-append (is_dead oldest) piece rest) ∙ ap (dead oldest) (sym whole)))

@@ -418,7 +418,7 @@ wrote_batch epoch cs held are none new =
 abbrev kill_one : RowId → ℕ → Row → Row
 kill_one id epoch r = cond (is_same r.id id) (record r { killed = epoch }) r
 
-kill_row-map : (id : RowId) (epoch : ℕ) (rs : List Row) → kill_row id epoch rs ≡ map (kill_one id epoch) rs
+pub kill_row-map : (id : RowId) (epoch : ℕ) (rs : List Row) → kill_row id epoch rs ≡ map (kill_one id epoch) rs
 kill_row-map id epoch [] = refl
 kill_row-map id epoch (r ∷ rs) = ap (λ (l : List Row). kill_one id epoch r ∷ l) (kill_row-map id epoch rs)
 
@@ -540,7 +540,7 @@ may_kill epoch id [] s alive = All-nil (Killable epoch id)
 may_kill epoch id (r ∷ rs) s alive =
     may_kill-by epoch id r rs (is_same r.id id) refl s alive (may_kill epoch id rs (ascends-after r.id rs s))
 
-alive_there : (id : RowId) (o : Option Row) → IsSomeAnd o (λ x. x.killed ≡ 0) → IsSome o
+pub alive_there : (id : RowId) (o : Option Row) → IsSomeAnd o (λ x. x.killed ≡ 0) → IsSome o
 alive_there id None h = absurd h
 alive_there id (Some r) h = refl
 
@@ -551,7 +551,7 @@ row_at-kill-by j id epoch r rs true false e f there rest = rw f (rest there)
 row_at-kill-by j id epoch r rs false true e f there rest = rw f refl
 row_at-kill-by j id epoch r rs false false e f there rest = rw f (rest there)
 
-row_at-kill : (j id : RowId) (epoch : ℕ) (rs : List Row) → is_some (row_at j rs) ≡ true → is_some (row_at j (map (kill_one id epoch) rs)) ≡ true
+pub row_at-kill : (j id : RowId) (epoch : ℕ) (rs : List Row) → is_some (row_at j rs) ≡ true → is_some (row_at j (map (kill_one id epoch) rs)) ≡ true
 row_at-kill j id epoch [] there = there
 row_at-kill j id epoch (r ∷ rs) there =
     row_at-kill-by j id epoch r rs (is_same r.id id) (is_same r.id j) refl refl there (row_at-kill j id epoch rs)
@@ -741,7 +741,7 @@ dead_unseen_by oldest v r false true e f h up =
     and_false false = refl
 dead_unseen_by oldest v r false false e f h up = cc h
 
-dead_test : (oldest : ℕ) (r : Row) → is_dead oldest r ≡ (not (r.killed == 0) && nat_le r.killed oldest)
+pub dead_test : (oldest : ℕ) (r : Row) → is_dead oldest r ≡ (not (r.killed == 0) && nat_le r.killed oldest)
 unfolding is_dead
 dead_test oldest r = refl
 

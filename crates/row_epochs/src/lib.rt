@@ -3,6 +3,7 @@
 #![tactic(auto)]
 
 mod error;
+mod killed;
 mod places;
 mod rows;
 mod scan;

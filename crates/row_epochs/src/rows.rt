@@ -12,7 +12,8 @@ ghost use Rattle.row_epochs.specs.Starts.{MayBecome};
 ghost use Rattle.row_epochs.specs.Versions.{AreVersions, IsAlive};
 
 use crate::error::RowsError;
-use crate::scan::{dead_ids, last_seen, some_seen};
+use crate::killed::{Kills, dead_ids, forget_dead, note_kills};
+use crate::scan::{last_seen, some_seen};
 use crate::writes::{inserts_of, kills_of, removals_of};
 use agg_model::{Batch, Change, Entity};
 use agg_outside::{Keeper, Row, RowId, Rowlist};
@@ -27,17 +28,21 @@ const MOST_EPOCH: u64 = 1 << 62;
 pub struct Rows<K: Keeper> {
     keeper: K,
     epoch: u64,
+    /// The killed rows, once a purge has been asked for.
+    kills: Option<Kills>,
 }
 
 impl<K: Keeper> Model for Rows<K> {
     ghost use Rattle.std.specs.Prelude.{◌^◌, ◌≤◌, IfSome};
     ghost use Rattle.row_epochs.specs.Versions.{Versions, AreVersions};
+    ghost use Rattle.row_epochs.specs.Kills.{AreKillsNoted};
 
     ghost Value = { Versions };
 
     ghost view = { λ r. record { told = K.held r.keeper; epoch = r.epoch; faults = K.faults r.keeper } };
 
-    ghost invariant = { λ r. (r.epoch ≤ 2 ^ 62) × IfSome (K.held r.keeper) (AreVersions r.epoch) };
+    ghost invariant = { λ r. (r.epoch ≤ 2 ^ 62) × IfSome (K.held r.keeper) (AreVersions r.epoch)
+        × IfSome (K.held r.keeper) (λ h. AreKillsNoted r.kills h.rows) };
 }
 
 // The epoch after this one.
@@ -60,7 +65,11 @@ impl<K: Keeper> Rows<K> {
         requires rows { ForSome (K.held keeper) (λ h. MayBecome epoch h.rows) }
         ensures { result ≡ record { told = K.held keeper; epoch = epoch; faults = K.faults keeper } }
     {
-        Rows { keeper, epoch }
+        Rows {
+            keeper,
+            epoch,
+            kills: None,
+        }
     }
 
     pub fn epoch(&self) -> u64
@@ -136,6 +145,7 @@ impl<K: Keeper> Rows<K> {
         let writes = kills_of(alloc, epoch, floor, ids)?;
         self.keeper.apply(alloc, writes.as_slice())?;
         self.epoch = epoch;
+        note_kills(alloc, &mut self.kills, epoch, ids);
         Ok(())
     }
 
@@ -207,7 +217,8 @@ impl<K: Keeper> Rows<K> {
     }
 
     /// Removes exactly the rows that were killed at `oldest` or before, in one write of the keeper, and
-    /// answers how many.
+    /// answers how many. The first call goes over all rows and notes the killed ones; from then on each row
+    /// is noted when it is killed, and a call goes over the notes alone.
     pub fn purge(&mut self, alloc: Global, oldest: u64) -> Result<u64, RowsError>
         ensures ok { IfSome self.old.told
             (λ h. OnOk result (self.new.told ≡ Some (record h { rows = without_dead oldest h.rows }))) }
@@ -221,10 +232,11 @@ impl<K: Keeper> Rows<K> {
         ensures cause { HasCause RowsError.Keeper self.old.faults self.new.faults result }
         ensures sound { IfSome self.new.told (AreVersions self.new.epoch) }
     {
-        let ids = dead_ids(&mut self.keeper, alloc, oldest)?;
+        let ids = dead_ids(&mut self.keeper, &mut self.kills, alloc, oldest)?;
         let count = ids.len() as u64;
         let writes = removals_of(alloc, ids)?;
         self.keeper.apply(alloc, writes.as_slice())?;
+        forget_dead(&mut self.kills, oldest);
         Ok(count)
     }
 }

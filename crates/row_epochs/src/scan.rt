@@ -5,27 +5,19 @@ ghost use Rattle.agg_outside.specs.Counts.{HasCause};
 ghost use Rattle.agg_outside.specs.Rows.{ascends, rows_from, last_before, is_before};
 ghost use Rattle.agg_model.specs.Pairs.{hot_change};
 ghost use Rattle.row_epochs.specs.Errors.{IsUnworn};
-ghost use Rattle.row_epochs.specs.Seen.{is_seen, seen, is_dead, dead};
+ghost use Rattle.row_epochs.specs.Seen.{is_seen, seen};
 ghost use Rattle.row_epochs.specs.Changes.{act_of, changes_seen, change_of};
 ghost use Rattle.row_epochs.specs.Versions.{AreVersions};
-ghost use Rattle.row_epochs.specs.Places.{behind, place_at, first_place, next_piece, ids_of};
+ghost use Rattle.row_epochs.specs.Places.{behind, place_at, next_piece};
 
 use crate::error::RowsError;
-use crate::places::{behind, change_of, first_place, is_before, is_seen, next_piece, place_at};
+use crate::places::{change_of, is_before, is_seen, next_piece, place_at};
 use agg_model::{Change, Entity};
 use agg_outside::{Keeper, Memory, Row, RowId, Rowlist};
 use std::alloc::Global;
 
 /// The most rows of one piece.
-const PIECE: usize = 256;
-
-// Whether the row was killed at the epoch or before.
-#[tactic(auto, unfolding(crate::specs::Seen::is_dead))]
-fn is_dead(epoch: u64, row: &Row) -> bool
-    ensures { result ≡ is_dead epoch row.now }
-{
-    !(row.killed == 0) && row.killed <= epoch
-}
+pub const PIECE: usize = 256;
 
 /// The change of the key that the epoch sees with the greatest number from `from` on and below
 /// `before`. Over a keeper that tells its rows the bound on the looks is never met: each is before the
@@ -118,45 +110,6 @@ pub fn some_seen<K: Keeper>(
         };
         place = next;
         size = PIECE.min(size * 2);
-    }
-    Err(RowsError::Memory)
-}
-
-// Adds the ids of the rows of the piece that were killed at the epoch or before.
-fn note_dead(oldest: u64, piece: Rowlist, ids: &mut Vec<RowId>) -> Result<(), Memory>
-    ensures noted { OnOk result (ids.new.items ≡ ids.old.items ++ ids_of (dead oldest piece)) }
-{
-    for row in piece.into_vec() {
-        if is_dead(oldest, &row) {
-            ids.push(row.id)?;
-        }
-    }
-    Ok(())
-}
-
-/// The ids of the rows that were killed at `oldest` or before, in order. Over a keeper that tells its
-/// rows the bound on the pieces is never met.
-pub fn dead_ids<K: Keeper>(
-    keeper: &mut K,
-    alloc: Global,
-    oldest: u64,
-) -> Result<Vec<RowId>, RowsError>
-    requires { ForSome (K.held keeper.old) (λ h. IsTrue (ascends h.rows)) }
-    ensures ids { IfSome (K.held keeper.old) (λ h. IfOk result (λ ids. ids.items ≡ ids_of (dead oldest h.rows))) }
-    ensures held { K.held keeper.new ≡ K.held keeper.old }
-    ensures unworn { IsUnworn result }
-    ensures cause { HasCause RowsError.Keeper (K.faults keeper.old) (K.faults keeper.new) result }
-{
-    let mut ids = Vec::new(alloc);
-    let mut place = first_place(alloc)?;
-    for _piece in 0..u64::MAX {
-        let piece = keeper.scan_some(alloc, &place, PIECE)?;
-        let next = next_piece(alloc, &piece, PIECE)?;
-        note_dead(oldest, piece, &mut ids)?;
-        let Some(next) = next else {
-            return Ok(ids);
-        };
-        place = next;
     }
     Err(RowsError::Memory)
 }

@@ -1,53 +1,46 @@
-use Rattle.std.proofs.Common.{◌≡◌, length, take, refl, ap, ◌∙◌, arith}
+use Rattle.std.proofs.Common.{◌≡◌, ℕ, List, length, drop, Option, sym, ap, subst, ◌∙◌}
 use Rattle.std.specs.Prelude.{nat_lt}
-use Rattle.agg_outside.specs.Rows.{Held, rows_from}
-use Rattle.row_epochs.specs.Seen.{seen}
-use Rattle.row_epochs.specs.Versions.{Versions, AreVersions}
+use Rattle.agg_outside.specs.declared.rows.RowId.{RowId}
+use Rattle.agg_outside.specs.Rows.{Held}
+use Rattle.row_epochs.specs.Versions.{AreVersions}
 use Rattle.row_epochs.proofs.Answering.{tell, fall}
 use Rattle.hot_keeper.specs.Pruning.{low_rows, pruned_ids}
-use Rattle.hot_keeper.proofs.PieceLaws.{walk, low_first, found_more, found_all, found_on_low, low_short}
+use Rattle.hot_keeper.specs.ReadAhead.{IsAhead, AreAhead}
+use Rattle.hot_keeper.proofs.AheadLaws.{ahead_ids, ahead_rest, read_for}
 use Rattle.hot_keeper.proofs.pieces.first_below.Goals as goal
 
-pub loop-piece-init : goal.loop-piece-init
-loop-piece-init g c = record {
-  told = refl;
-  epoch = refl;
-  faults = omega arith;
-  short = omega (arith, c.new-ids.ensures.len, ap length c.new-ids.ensures.items);
-  left = λ h told. low_first c.args.tx c.epoch-present.result h.rows c.in_ok-place.place c.new-ids.result.items c.new-ids.ensures.items c.in_ok-place.ensures;
-}
+pub read_on-requires-clause-ahead : goal.read_on-requires-clause-ahead
+read_on-requires-clause-ahead g c = λ κs lives.
+    let begun = c.in_ok-begun.begun in
+    tell c.args.rows.now.told (λ (h : Held). IsAhead begun.ids.items begun.place (low_rows begun.tx h.rows)) (λ h told.
+    let F : ℕ → Type 0 = λ n. IsAhead begun.ids.items begun.place (low_rows n h.rows) in
+    subst F (sym c.in_ok-begun.ensures.tx) (c.in_ok-begun.ensures.ahead h.rows (fall c.args.rows.now.told (λ (x : Held). AreAhead c.args.before x.rows) c.requires.ahead h told)))
 
-pub returns-then-more-clause-ids : goal.returns-then-more-clause-ids
-returns-then-more-clause-ids g c =
-    let at = c.loop-piece in
-    tell c.args.rows.now.told (λ (h : Held). c.note_below.new.ids.items ≡ pruned_ids c.args.tx c.args.limit h.rows) (λ h told.
-    (found_more c.args.tx c.args.limit c.epoch-present.result c.args.rows.now.epoch h at.place c.in_ok-piece.piece c.in_ok-next.next at.ids.items c.note_below.new.ids.items c.in_ok-more.more c.epoch-present.ensures.epoch (fall c.args.rows.now.told (AreVersions c.args.rows.now.epoch) c.requires h told) (walk c.epoch-present.result c.args.rows.now.epoch h at.place c.in_ok-piece.piece c.in_ok-next.next (fall c.args.rows.now.told (AreVersions c.args.rows.now.epoch) c.requires h told) (fall at.rows.told (λ (x : Held). c.in_ok-piece.piece ≡ take 256 (seen c.epoch-present.result (rows_from at.place x.rows))) c.in_ok-piece.ensures.rows h (at.invariant.told ∙ told)) c.in_ok-next.ensures) c.in_ok-more.ensures.ids c.in_ok-more.ensures.more c.if-more.true (at.invariant.left h told)).ids_are)
+pub returns-clause-ids : goal.returns-clause-ids
+returns-clause-ids g c =
+    let read = c.in_ok-read.read in
+    tell c.args.rows.now.told (λ (h : Held). c.in_ok-first.first.ids.items ≡ pruned_ids c.args.tx c.args.limit h.rows) (λ h told.
+    c.in_ok-first.ensures.ids
+    ∙ (ahead_ids c.args.limit read.ids.items read.place (low_rows c.args.tx h.rows) c.in_ok-read.ensures.enough
+    (read_for read.ids.items read.place c.in_ok-begun.begun.tx c.args.tx c.args.rows.now.told c.in_ok-begun.ensures.tx c.in_ok-read.ensures.ahead h told)).0)
 
-pub returns-then-more-clause-more : goal.returns-then-more-clause-more
-returns-then-more-clause-more g c =
-    let at = c.loop-piece in
-    tell c.args.rows.now.told (λ (h : Held). c.in_ok-more.more ≡ nat_lt c.args.limit (length (low_rows c.args.tx h.rows))) (λ h told.
-    (found_more c.args.tx c.args.limit c.epoch-present.result c.args.rows.now.epoch h at.place c.in_ok-piece.piece c.in_ok-next.next at.ids.items c.note_below.new.ids.items c.in_ok-more.more c.epoch-present.ensures.epoch (fall c.args.rows.now.told (AreVersions c.args.rows.now.epoch) c.requires h told) (walk c.epoch-present.result c.args.rows.now.epoch h at.place c.in_ok-piece.piece c.in_ok-next.next (fall c.args.rows.now.told (AreVersions c.args.rows.now.epoch) c.requires h told) (fall at.rows.told (λ (x : Held). c.in_ok-piece.piece ≡ take 256 (seen c.epoch-present.result (rows_from at.place x.rows))) c.in_ok-piece.ensures.rows h (at.invariant.told ∙ told)) c.in_ok-next.ensures) c.in_ok-more.ensures.ids c.in_ok-more.ensures.more c.if-more.true (at.invariant.left h told)).more_is)
+pub returns-clause-more : goal.returns-clause-more
+returns-clause-more g c =
+    let read = c.in_ok-read.read in
+    tell c.args.rows.now.told (λ (h : Held). c.in_ok-first.first.more ≡ nat_lt c.args.limit (length (low_rows c.args.tx h.rows))) (λ h told.
+    c.in_ok-first.ensures.more
+    ∙ (ahead_ids c.args.limit read.ids.items read.place (low_rows c.args.tx h.rows) c.in_ok-read.ensures.enough
+    (read_for read.ids.items read.place c.in_ok-begun.begun.tx c.args.tx c.args.rows.now.told c.in_ok-begun.ensures.tx c.in_ok-read.ensures.ahead h told)).1)
 
-pub returns-in_default-clause-ids : goal.returns-in_default-clause-ids
-returns-in_default-clause-ids g c =
-    let at = c.loop-piece in
-    tell c.args.rows.now.told (λ (h : Held). c.note_below.new.ids.items ≡ pruned_ids c.args.tx c.args.limit h.rows) (λ h told.
-    (found_all c.args.tx c.args.limit c.epoch-present.result c.args.rows.now.epoch h at.place c.in_ok-piece.piece c.in_ok-next.next at.ids.items c.note_below.new.ids.items c.in_ok-more.more c.epoch-present.ensures.epoch (fall c.args.rows.now.told (AreVersions c.args.rows.now.epoch) c.requires h told) (walk c.epoch-present.result c.args.rows.now.epoch h at.place c.in_ok-piece.piece c.in_ok-next.next (fall c.args.rows.now.told (AreVersions c.args.rows.now.epoch) c.requires h told) (fall at.rows.told (λ (x : Held). c.in_ok-piece.piece ≡ take 256 (seen c.epoch-present.result (rows_from at.place x.rows))) c.in_ok-piece.ensures.rows h (at.invariant.told ∙ told)) c.in_ok-next.ensures) c.in_ok-more.ensures.ids c.in_ok-more.ensures.more c.if-more.false c.in_default.is (at.invariant.left h told)).ids_are)
-
-pub returns-in_default-clause-more : goal.returns-in_default-clause-more
-returns-in_default-clause-more g c =
-    let at = c.loop-piece in
-    tell c.args.rows.now.told (λ (h : Held). c.in_ok-more.more ≡ nat_lt c.args.limit (length (low_rows c.args.tx h.rows))) (λ h told.
-    (found_all c.args.tx c.args.limit c.epoch-present.result c.args.rows.now.epoch h at.place c.in_ok-piece.piece c.in_ok-next.next at.ids.items c.note_below.new.ids.items c.in_ok-more.more c.epoch-present.ensures.epoch (fall c.args.rows.now.told (AreVersions c.args.rows.now.epoch) c.requires h told) (walk c.epoch-present.result c.args.rows.now.epoch h at.place c.in_ok-piece.piece c.in_ok-next.next (fall c.args.rows.now.told (AreVersions c.args.rows.now.epoch) c.requires h told) (fall at.rows.told (λ (x : Held). c.in_ok-piece.piece ≡ take 256 (seen c.epoch-present.result (rows_from at.place x.rows))) c.in_ok-piece.ensures.rows h (at.invariant.told ∙ told)) c.in_ok-next.ensures) c.in_ok-more.ensures.ids c.in_ok-more.ensures.more c.if-more.false c.in_default.is (at.invariant.left h told)).more_is)
-
-pub loop-piece-preserved : goal.loop-piece-preserved
-loop-piece-preserved g c =
-    let at = c.loop-piece in
-    record {
-      told = ap (λ (v : Versions). v.told) c.in_ok-piece.ensures.same ∙ at.invariant.told;
-      epoch = ap (λ (v : Versions). v.epoch) c.in_ok-piece.ensures.same ∙ at.invariant.epoch;
-      faults = omega (arith, at.invariant.faults, c.in_ok-piece.ensures.cause.no_fall);
-      short = low_short c.args.tx c.args.limit at.ids.items c.note_below.new.ids.items c.in_ok-piece.piece c.in_ok-more.ensures.ids;
-      left = λ h told. found_on_low c.args.tx c.args.limit c.epoch-present.result h at.place c.in-Some.next c.in_ok-piece.piece c.in_ok-next.next at.ids.items c.note_below.new.ids.items c.in_ok-more.more (walk c.epoch-present.result c.args.rows.now.epoch h at.place c.in_ok-piece.piece c.in_ok-next.next (fall c.args.rows.now.told (AreVersions c.args.rows.now.epoch) c.requires h told) (fall at.rows.told (λ (x : Held). c.in_ok-piece.piece ≡ take 256 (seen c.epoch-present.result (rows_from at.place x.rows))) c.in_ok-piece.ensures.rows h (at.invariant.told ∙ told)) c.in_ok-next.ensures) c.in_ok-more.ensures.ids c.in_ok-more.ensures.more c.if-more.false c.in-Some.is (at.invariant.left h told);
-    }
+pub returns-clause-rest : goal.returns-clause-rest
+returns-clause-rest g c =
+    let read = c.in_ok-read.read in
+    let rest = c.in_ok-first.first.rest in
+    tell c.args.rows.now.told (λ (h : Held). IsAhead rest.ids.items rest.place (drop c.args.limit (low_rows c.args.tx h.rows))) (λ h told.
+    let F : List RowId → Type 0 = λ l. IsAhead l rest.place (drop c.args.limit (low_rows c.args.tx h.rows)) in
+    let G : Option RowId → Type 0 = λ p. IsAhead (drop c.args.limit read.ids.items) p (drop c.args.limit (low_rows c.args.tx h.rows)) in
+    let are = fall c.args.rows.now.told (AreVersions c.args.rows.now.epoch) c.requires.versions h told in
+    subst F (sym c.in_ok-first.ensures.rest)
+    (subst G (sym c.in_ok-first.ensures.place)
+    (ahead_rest c.args.tx c.args.limit read.ids.items read.place h.rows are.in_order c.in_ok-read.ensures.enough
+    (read_for read.ids.items read.place c.in_ok-begun.begun.tx c.args.tx c.args.rows.now.told c.in_ok-begun.ensures.tx c.in_ok-read.ensures.ahead h told))))

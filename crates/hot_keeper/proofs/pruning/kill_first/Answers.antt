@@ -1,4 +1,4 @@
-use Rattle.std.proofs.Common.{◌≡◌, ◌↔◌, ◌≤◌, ℕ, ◌+◌, false, List, length, take, All, Option, Some, IsSomeAnd, refl, sym, ap, subst, ◌∙◌}
+use Rattle.std.proofs.Common.{◌≡◌, ◌↔◌, ◌≤◌, ℕ, ◌+◌, false, List, length, take, All, Option, Some, None, IfNone, IsSomeAnd, refl, sym, ap, subst, ◌∙◌}
 use Rattle.std.specs.Prelude.{nat_lt}
 use Rattle.agg_outside.specs.declared.rows.RowId.{RowId}
 use Rattle.agg_outside.specs.Rows.{Held}
@@ -7,12 +7,13 @@ use Rattle.row_epochs.specs.Versions.{Versions, AreVersions, IsAlive}
 use Rattle.row_epochs.proofs.Answering.{tell, fall}
 use Rattle.hot_keeper.specs.Pruning.{low_rows, pruned_ids, does_prune, pruned, epoch_pruned}
 use Rattle.hot_keeper.proofs.PruneLaws.{pruned_alive, length_pruned, does_prune_is, pruned_no, epoch_yes, epoch_no, prune_ok, moved, left_is}
+use Rattle.hot_keeper.proofs.AheadLaws.{ahead_kept, ahead_left}
 use Rattle.hot_keeper.proofs.pruning.kill_first.Goals as goal
 
 pub kill-requires-clause-alive : goal.kill-requires-clause-alive
 kill-requires-clause-alive g c = λ κs lives h there.
     let told = sym ((ap (λ (v : Versions). v.told) c.in_ok-present.ensures.same ∙ ap (λ (v : Versions). v.told) c.in_ok-low.ensures.same)) ∙ there in
-    let are = fall c.args.rows.now.told (AreVersions c.args.rows.now.epoch) c.requires h told in
+    let are = fall c.args.rows.now.told (AreVersions c.args.rows.now.epoch) c.requires.versions h told in
     let F : List RowId → Type 0 = λ l. All (IsAlive h.rows) l in
     subst F (sym (c.as_slice-dead.ensures.value ∙ fall c.args.rows.now.told (λ (x : Held). c.in_ok-low.low.ids.items ≡ pruned_ids c.args.tx c.args.limit x.rows) c.in_ok-low.ensures.ids h told)) (pruned_alive c.args.tx c.args.limit h.rows are.in_order)
 
@@ -63,3 +64,14 @@ returns-clause-epoch g c =
 pub returns-clause-rises : goal.returns-clause-rises
 returns-clause-rises g c =
     λ top. absurd (c.in_ok-kill.ensures.worn.1 ((ap (λ (v : Versions). v.epoch) c.in_ok-present.ensures.same ∙ ap (λ (v : Versions). v.epoch) c.in_ok-low.ensures.same) ∙ top))
+
+pub returns-then-not-does_prune-clause-ahead : goal.returns-then-not-does_prune-clause-ahead
+returns-then-not-does_prune-clause-ahead g c =
+    ahead_kept c.in_ok-low.low.rest c.floor.new.self.told c.args.rows.now.told c.args.tx c.args.rows.now.epoch c.args.floor c.args.limit (ap (λ (v : Versions). v.told) c.in_ok-present.ensures.same ∙ ap (λ (v : Versions). v.told) c.in_ok-low.ensures.same) c.in_ok-low.ensures.tx c.requires.versions c.in_ok-low.ensures.rest
+    (λ h told. sym (does_prune_is c.args.tx c.args.floor c.args.limit c.in_ok-present.present h c.as_slice-dead.result.now c.does_prune.result (c.as_slice-dead.ensures.value ∙ fall c.args.rows.now.told (λ (x : Held). c.in_ok-low.low.ids.items ≡ pruned_ids c.args.tx c.args.limit x.rows) c.in_ok-low.ensures.ids h told) (fall c.first_below.new.rows.told (λ (x : Held). c.in_ok-present.present ≡ x.floor) c.in_ok-present.ensures.floor h ((ap (λ (v : Versions). v.told) c.in_ok-low.ensures.same) ∙ told)) c.does_prune.ensures) ∙ c.if-not-does_prune.true)
+
+pub returns-clause-ahead : goal.returns-clause-ahead
+returns-clause-ahead g c =
+    let F : Option Held → Type 0 = λ o. IfNone o (c.kill.new.self.told ≡ None) in
+    ahead_left c.in_ok-low.low.rest c.args.rows.now.told c.kill.new.self.told c.args.tx c.args.rows.now.epoch c.args.floor c.args.limit c.in_ok-low.ensures.tx c.requires.versions c.in_ok-low.ensures.rest (returns-clause-ok g c)
+    (subst F (ap (λ (v : Versions). v.told) c.in_ok-present.ensures.same ∙ ap (λ (v : Versions). v.told) c.in_ok-low.ensures.same) c.in_ok-kill.ensures.silent)

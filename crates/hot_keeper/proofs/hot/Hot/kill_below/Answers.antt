@@ -16,6 +16,7 @@ invariant_of-self-then-pruned-eq0 g c = (
       (high_pruned c.self.inside.rows.epoch c.args.tx c.args.floor c.args.limit c.in_ok-pruned.pruned.left h (fall c.self.inside.rows.told (AreVersions c.self.inside.rows.epoch) c.self.invariant.0 h told).in_order
       (fall c.self.inside.rows.told (λ (x : Held). (c.in_ok-pruned.pruned.left ≡ 0) ↔ (length (low_rows c.args.tx x.rows) ≤ c.args.limit)) c.in_ok-pruned.ensures.left h told) c.if-pruned-eq0.true))
       c.in_ok-pruned.ensures.ok c.in_ok-pruned.ensures.silent,
+  c.in_ok-pruned.ensures.ahead,
 )
 
 pub invariant_of-self-else-pruned-eq0 : goal.invariant_of-self-else-pruned-eq0
@@ -24,4 +25,5 @@ invariant_of-self-else-pruned-eq0 g c = (
   made c.self.inside.rows.told c.kill_first.new.rows.told (λ (h : Held). pruned (c.self.inside.rows.epoch + 1) c.args.tx c.args.floor c.args.limit h) _
       (λ h told. are_noted_pruned c.self.inside.notes c.self.inside.rows.epoch c.args.tx c.args.floor c.args.limit h (fall c.self.inside.rows.told (λ (k : Held). AreNoted c.self.inside.notes k.rows) c.self.invariant.1 h told))
       c.in_ok-pruned.ensures.ok c.in_ok-pruned.ensures.silent,
+  c.in_ok-pruned.ensures.ahead,
 )

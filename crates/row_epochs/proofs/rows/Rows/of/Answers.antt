@@ -1,6 +1,7 @@
-use Rattle.std.proofs.Common.{IsTrue}
+use Rattle.std.proofs.Common.{IsTrue, None}
 use Rattle.agg_outside.specs.Rows.{Held, ascends}
 use Rattle.row_epochs.specs.Versions.{AreVersions}
+use Rattle.row_epochs.specs.Kills.{AreKillsNoted}
 use Rattle.row_epochs.proofs.Answering.{tell, fall}
 use Rattle.row_epochs.proofs.rows.Rows.of.Goals as goal
 
@@ -15,4 +16,5 @@ invariant_of-result g c =
             versions = rows.versions;
             apart = rows.apart;
           }),
+      tell (g.K.Keeper.held c.args.keeper) (λ h. AreKillsNoted None h.rows) (λ h told. tt),
     )

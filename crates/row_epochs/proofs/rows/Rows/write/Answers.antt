@@ -5,7 +5,9 @@ use Rattle.agg_model.specs.Arranged.{arranged_from}
 use Rattle.row_epochs.specs.Seen.{SameUpTo, SameFrom, without_dead}
 use Rattle.row_epochs.specs.Changes.{changes_seen, writes_of, kills_of}
 use Rattle.row_epochs.specs.Versions.{Versions, AreVersions}
+use Rattle.row_epochs.specs.Kills.{AreKillsNoted}
 use Rattle.row_epochs.proofs.Answering.{tell, fall, made, kept, becomes, batched, killed_by, purged_by}
+use Rattle.row_epochs.proofs.KillLaws.{batch_noted}
 use Rattle.row_epochs.proofs.rows.Rows.write.Goals as goal
 
 pub apply-requires : goal.apply-requires
@@ -16,6 +18,9 @@ invariant_of-self-2 g c = (
   c.in_ok-epoch.ensures.within,
   made (g.K.Keeper.held c.self.inside.keeper) (g.K.Keeper.held c.apply.new.self) (applied c.as_slice.result.now) (AreVersions c.in_ok-epoch.epoch)
       (λ h told. (batched (g.K.Keeper.held c.self.inside.keeper) c.args.self.now.told c.self.inside.epoch c.args.self.now.epoch c.in_ok-epoch.epoch c.args.batch.now c.as_slice.result.now (ap (λ (v : Versions). v.told) c.self.view_is) (ap (λ (v : Versions). v.epoch) c.self.view_is) c.in_ok-epoch.ensures.next (c.as_slice.ensures.value ∙ c.in_ok-writes.ensures) c.self.invariant.1 c.requires.apart c.requires.new h told).are) c.in_ok-apply.ensures.ok c.in_ok-apply.ensures.silent,
+  made (g.K.Keeper.held c.self.inside.keeper) (g.K.Keeper.held c.apply.new.self) (applied c.as_slice.result.now) (λ (h : Held). AreKillsNoted c.self.inside.kills h.rows)
+      (λ h told. batch_noted (g.K.Keeper.held c.self.inside.keeper) c.self.inside.kills c.in_ok-epoch.epoch c.args.batch.now c.as_slice.result.now (c.as_slice.ensures.value ∙ c.in_ok-writes.ensures) c.self.invariant.2 h told)
+      c.in_ok-apply.ensures.ok c.in_ok-apply.ensures.silent,
 )
 
 pub returns-clause-sound : goal.returns-clause-sound
