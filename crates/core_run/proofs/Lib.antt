@@ -1,0 +1,6 @@
+pub mod NameSets
+pub mod RowPlaces
+pub mod Looks
+pub mod Candidates
+pub mod Ingests
+pub mod StepLaws
