@@ -4,3 +4,4 @@ pub mod Looks
 pub mod Candidates
 pub mod Ingests
 pub mod StepLaws
+pub mod Empty
