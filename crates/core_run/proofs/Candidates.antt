@@ -13,15 +13,17 @@ use Rattle.agg_model.specs.declared.entity.FileKind.TheVariants.{Ef}
 use Rattle.merge_ranges.specs.declared.name.FileName.{FileName}
 use Rattle.merge_ranges.specs.Cut.{is_aligned, end_from}
 use Rattle.merge_ranges.specs.Name.{is_name, has_kind, spelled}
-use Rattle.core_machine.specs.Texts.{has, SameNames, entity_texts, all_texts}
-use Rattle.core_machine.specs.Publishing.{range_at, has_group, parts_of, IsCollation, IsMerge, IsPublish}
+use Rattle.core_machine.specs.Texts.{has, SameNames, AreAmong, with_names, entity_texts, all_texts}
+use Rattle.core_machine.specs.Publishing.{range_at, has_group, is_end, parts_of, IsCollation, IsMerge, IsPublish}
 use Rattle.core_machine.proofs.Inside.{In}
 use Rattle.core_machine.proofs.GroupTexts.{named, has-group, from-group}
 use Rattle.core_machine.proofs.Visible.{ef-fits, is_name-of}
 use Rattle.core_machine.proofs.KeptCollation.{aligned-step}
 use Rattle.core_machine.proofs.KeptMerge.{IsChain, parts-chain, over-in, over-from}
 use Rattle.core_run.specs.Publishes.{IsStep, IsUnionOf, IsMergeTo}
-use Rattle.core_run.proofs.NameSets.{at-head}
+use Rattle.core_run.proofs.NameSets.{at-head, same-set}
+use Rattle.core_run.proofs.Looks.{parts-same}
+use Rattle.core_run.proofs.StepLaws.{decides-at}
 
 -- what is read of the first name
 abbrev pub ReadsFirst : List (List ℕ) → Option FileName → Type 0
@@ -99,15 +101,15 @@ module _ (next size : ℕ) (some : 1 ≤ size) (within : next ≤ 4096 * size) (
 
   pub collation-decides : (b : Bool) (name : FileName) → ReadsFirst added (Some name) → Decides b (IsStep (next / size) visible added name.range.from)
       → Decides b (IsCollation next size visible added [])
-  collation-decides b name reads d = (yes, no)
+  collation-decides b name reads d = (taken, only)
     where
-      yes : b ≡ true → IsCollation next size visible added []
-      yes e =
+      taken : b ≡ true → IsCollation next size visible added []
+      taken e =
           let s = d.0 e in
           record { step = name.range.from; at_end = s.at_end; complete = s.complete_step; are = s.are; nothing = refl }
 
-      no : IsCollation next size visible added [] → b ≡ true
-      no c =
+      only : IsCollation next size visible added [] → b ≡ true
+      only c =
           let n = step-names added (Some name) c.step reads (le-chain c.complete complete-within) c.are in
           let same : c.step ≡ name.range.from = ap (λ (m : FileName). m.range.from) (sym (some-is name (named n.entity (range_at c.step 1) n.kind) n.is)) in
           let here : IsStep (next / size) visible added c.step = record { at_end = c.at_end; complete_step = c.complete; are = c.are } in
@@ -121,10 +123,10 @@ module _ (visible added replaced : List (List ℕ)) where
 
   pub merge-decides : (b : Bool) (name : FileName) → ReadsFirst added (Some name) → is_aligned name.range ≡ true → Decides b (IsMergeTo visible added replaced name.entity name.range)
       → Decides b (IsMerge visible added replaced)
-  merge-decides b name reads al d = (yes, no)
+  merge-decides b name reads al d = (taken, only)
     where
-      yes : b ≡ true → IsMerge visible added replaced
-      yes e =
+      taken : b ≡ true → IsMerge visible added replaced
+      taken e =
           let s = d.0 e in
           record {
             entity = name.entity;
@@ -137,8 +139,8 @@ module _ (visible added replaced : List (List ℕ)) where
             gone = s.union.gone;
           }
 
-      no : IsMerge visible added replaced → b ≡ true
-      no may =
+      only : IsMerge visible added replaced → b ≡ true
+      only may =
           let n = merge-names added (Some name) may.entity may.range reads may.aligned may.are in
           let same : named may.entity may.range n.kind ≡ name = sym (some-is name (named may.entity may.range n.kind) n.is) in
           let here : IsMergeTo visible added replaced may.entity may.range =
@@ -162,18 +164,18 @@ nothing-merged visible added may =
     few may.several (no-parts may.entity r.from (parts_of [] may.entity r) (parts-chain [] may.entity (r.to - r.from) r.from r.to))
 
 pub publish-nothing : (next size : ℕ) (visible added : List (List ℕ)) (b : Bool) → Decides b (IsCollation next size visible added []) → Decides b (IsPublish next size visible added [])
-publish-nothing next size visible added b d = (λ e. inl (d.0 e), no)
+publish-nothing next size visible added b d = (λ e. inl (d.0 e), only)
   where
-    no : IsPublish next size visible added [] → b ≡ true
-    no (inl c) = d.1 c
-    no (inr may) = absurd (nothing-merged visible added may)
+    only : IsPublish next size visible added [] → b ≡ true
+    only (inl c) = d.1 c
+    only (inr may) = absurd (nothing-merged visible added may)
 
 pub publish-some : (next size : ℕ) (visible added replaced : List (List ℕ)) (b : Bool) → (replaced ≡ [] → ⊥) → Decides b (IsMerge visible added replaced) → Decides b (IsPublish next size visible added replaced)
-publish-some next size visible added replaced b some d = (λ e. inr (d.0 e), no)
+publish-some next size visible added replaced b some d = (λ e. inr (d.0 e), only)
   where
-    no : IsPublish next size visible added replaced → b ≡ true
-    no (inl c) = absurd (some c.nothing)
-    no (inr may) = d.1 may
+    only : IsPublish next size visible added replaced → b ≡ true
+    only (inl c) = absurd (some c.nothing)
+    only (inr may) = d.1 may
 
 pub name-aligned : (n : FileName) → is_name n ≡ true → is_aligned n.range ≡ true
 unfolding is_name
@@ -182,3 +184,49 @@ name-aligned n h = first-of (is_aligned n.range) (has_kind n.entity n.kind) h
     first-of : (a b : Bool) → (a && b) ≡ true → a ≡ true
     first-of true b h = refl
     first-of false b h = h
+
+-- ---- what the looks decide
+
+below-step : {a b : ℕ} → a < b → a + 1 ≤ b
+below-step h = omega (arith, h)
+
+pub step-decides : (complete step : ℕ) (visible added s w : List (List ℕ)) (cut : List Range) (b : Bool) → step < complete → is_end visible step ≡ true → cut ≡ range_at step 1 ∷ []
+    → w ≡ with_names [] (all_texts cut) → s ≡ with_names [] added → Decides b (s ≡ w) → Decides b (IsStep complete visible added step)
+step-decides complete step visible added s w cut b below at_end is so this d =
+    let same : Decides b (SameNames added (all_texts (range_at step 1 ∷ []))) = decides-at added (all_texts (range_at step 1 ∷ [])) s w b this (so ∙ ap (λ l. with_names [] (all_texts l)) is) d in
+    (λ e. record { at_end = at_end; complete_step = below-step below; are = same.0 e }, λ h. same.1 h.are)
+
+pub merge-to-decides : (visible added replaced s w : List (List ℕ)) (e : Entity) (r : Range) (cut : List Range) (b : Bool) → IsUnionOf visible replaced e r → cut ≡ r ∷ []
+    → w ≡ with_names [] (entity_texts e cut) → s ≡ with_names [] added → Decides b (s ≡ w) → Decides b (IsMergeTo visible added replaced e r)
+merge-to-decides visible added replaced s w e r cut b union is so this d =
+    let same : Decides b (SameNames added (entity_texts e (r ∷ []))) = decides-at added (entity_texts e (r ∷ [])) s w b this (so ∙ ap (λ l. with_names [] (entity_texts e l)) is) d in
+    (λ h. record { union = union; are = same.0 h }, λ h. same.1 h.are)
+
+too-short : {n : ℕ} → n < 2 → 2 ≤ n → ⊥
+too-short h g = omega (arith, h, g)
+
+module _ (visible replaced s : List (List ℕ)) (e : Entity) (r : Range) (parts : List Range) (end : ℕ) (is : s ≡ with_names [] replaced) (found : parts ≡ parts_of s e r)
+    (reached : end ≡ end_from r.from parts) where
+  parts-are : parts ≡ parts_of replaced e r
+  parts-are = found ∙ ap (λ l. parts_of l e r) is ∙ parts-same (with_names [] replaced) replaced (same-set replaced) e r
+
+  pub not-reached : (end ≡ r.to → ⊥) → IsUnionOf visible replaced e r → ⊥
+  not-reached differ u = differ (reached ∙ ap (end_from r.from) parts-are ∙ u.ends)
+
+  pub not-several : length parts < 2 → IsUnionOf visible replaced e r → ⊥
+  not-several short u = too-short (subst (λ l. length l < 2) parts-are short) u.several
+
+  pub union-decides : (w : List (List ℕ)) (b : Bool) → AreAmong replaced visible → end ≡ r.to → 2 ≤ length parts → w ≡ with_names [] (entity_texts e parts) → Decides b (s ≡ w)
+      → Decides b (IsUnionOf visible replaced e r)
+  union-decides w b among at several so d =
+      let same : Decides b (SameNames replaced (entity_texts e parts)) = decides-at replaced (entity_texts e parts) s w b is so d in
+      let F : List Range → Type 0 = λ l. Decides b (SameNames replaced (entity_texts e l)) in
+      let those : Decides b (SameNames replaced (entity_texts e (parts_of replaced e r))) = subst F parts-are same in (
+        λ h. record {
+          ends = sym (ap (end_from r.from) parts-are) ∙ sym reached ∙ at;
+          several = subst (λ (l : List Range). 2 ≤ length l) parts-are several;
+          seen = among;
+          gone = those.0 h;
+        },
+        λ u. those.1 u.gone,
+      )

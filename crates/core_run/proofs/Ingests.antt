@@ -1,5 +1,5 @@
 -- Which batches may come, and which have no repeats.
-use Rattle.std.proofs.Common.{◌≡◌, ◌≢◌, ◌⊎◌, inl, inr, Bool, true, false, cond, ◌||◌, not, ℕ, zero, suc, ◌+◌, ◌<◌, ◌≤◌, List, [], ◌∷◌, ◌++◌, length, get_or, drop, All, refl, sym, ◌∙◌, ap, subst, arith, append_assoc, append-nil, add-one, drop-cons}
+use Rattle.std.proofs.Common.{◌≡◌, ◌≢◌, ◌⊎◌, inl, inr, Bool, true, false, cond, ◌||◌, not, ℕ, zero, suc, ◌+◌, ◌-◌, ◌<◌, ◌≤◌, List, [], ◌∷◌, ◌++◌, length, get_or, drop, All, refl, sym, ◌∙◌, ap, subst, arith, append_assoc, append-nil, add-one, drop-cons}
 use Rattle.std.specs.Prelude.{Option, Some, None, nat_lt}
 use Rattle.std.specs.Option.{option_or}
 use Rattle.std.proofs.lemmas.List.Elements.{All-head, All-tail}
@@ -15,6 +15,7 @@ use Rattle.agg_model.specs.ChangeList.{next_of}
 use Rattle.agg_model.specs.Merged.{put_over, merged_from, merged}
 use Rattle.agg_model.specs.Place.{place_of, is_same_place}
 use Rattle.agg_model.proofs.PlaceOrder.{is_same_place-true}
+use Rattle.agg_model.proofs.MergedLaws.{merged-HasNoRepeats}
 
 outside-none : (most n : ℕ) → 1 ≤ n → n ≤ most → is_outside most n ≡ false
 outside-none most n low high = grind (arith, nat_tests)
@@ -91,11 +92,11 @@ length-behind : (ds : List Change) (c : Change) → length (ds ++ c ∷ []) ≡ 
 length-behind [] c = refl
 length-behind (d ∷ ds) c = ap suc (length-behind ds c)
 
-fewer : {a b n x : ℕ} → x ≡ a → n ≤ x + b → n ≤ a + suc b
-fewer e h = omega (arith, e, h)
+fewer : (a b n x : ℕ) → x ≡ a → n ≤ x + b → n ≤ a + suc b
+fewer a b n x e h = omega (arith, e, h)
 
-as-many : {a b n x : ℕ} → x ≡ suc a → n ≤ x + b → n ≤ a + suc b
-as-many e h = omega (arith, e, h)
+as-many : (a b n x : ℕ) → x ≡ suc a → n ≤ x + b → n ≤ a + suc b
+as-many a b n x e h = omega (arith, e, h)
 
 all-counted : (n : ℕ) → n ≤ n + 0
 all-counted n = omega arith
@@ -105,22 +106,22 @@ merged-few acc [] = all-counted (length acc)
 merged-few acc (c ∷ cs) = by (put-either c acc) (merged-few (put_over c acc) cs)
   where
     by : (length (put_over c acc) ≡ length acc) ⊎ (put_over c acc ≡ acc ++ c ∷ []) → length (merged_from (put_over c acc) cs) ≤ length (put_over c acc) + length cs → length (merged_from (put_over c acc) cs) ≤ length acc + suc (length cs)
-    by (inl e) h = fewer e h
-    by (inr e) h = as-many (ap length e ∙ length-behind acc c) h
+    by (inl e) h = fewer (length acc) (length cs) (length (merged_from (put_over c acc) cs)) (length (put_over c acc)) e h
+    by (inr e) h = as-many (length acc) (length cs) (length (merged_from (put_over c acc) cs)) (length (put_over c acc)) (ap length e ∙ length-behind acc c) h
 
-too-few : {a b n x : ℕ} → x ≡ a → n ≤ x + b → n ≡ a + suc b → ⊥
-too-few e h is = omega (arith, e, h, is)
+too-few : (a b n x : ℕ) → x ≡ a → n ≤ x + b → n ≡ a + suc b → ⊥
+too-few a b n x e h is = omega (arith, e, h, is)
 
-next-count : {a b n x : ℕ} → x ≡ suc a → n ≡ a + suc b → n ≡ x + b
-next-count e is = omega (arith, e, is)
+next-count : (a b n x : ℕ) → x ≡ suc a → n ≡ a + suc b → n ≡ x + b
+next-count a b n x e is = omega (arith, e, is)
 
 merged-long : (acc cs : List Change) → length (merged_from acc cs) ≡ length acc + length cs → merged_from acc cs ≡ acc ++ cs
 merged-long acc [] is = sym (append-nil acc)
 merged-long acc (c ∷ cs) is = by (put-either c acc) (λ e. merged-long (put_over c acc) cs e)
   where
     by : (length (put_over c acc) ≡ length acc) ⊎ (put_over c acc ≡ acc ++ c ∷ []) → (length (merged_from (put_over c acc) cs) ≡ length (put_over c acc) + length cs → merged_from (put_over c acc) cs ≡ put_over c acc ++ cs) → merged_from (put_over c acc) cs ≡ acc ++ c ∷ cs
-    by (inl e) rest = absurd (too-few e (merged-few (put_over c acc) cs) is)
-    by (inr e) rest = rest (next-count (ap length e ∙ length-behind acc c) is) ∙ ap (λ l. l ++ cs) e ∙ behind acc cs c
+    by (inl e) rest = absurd (too-few (length acc) (length cs) (length (merged_from (put_over c acc) cs)) (length (put_over c acc)) e (merged-few (put_over c acc) cs) is)
+    by (inr e) rest = rest (next-count (length acc) (length cs) (length (merged_from (put_over c acc) cs)) (length (put_over c acc)) (ap length e ∙ length-behind acc c) is) ∙ ap (λ l. l ++ cs) e ∙ behind acc cs c
 
 nothing-more : (n : ℕ) → n ≡ 0 + n
 nothing-more n = omega arith
@@ -133,3 +134,13 @@ all-kept cs is = merged-long [] cs (is ∙ nothing-more (length cs))
 pub none-repeats : (cs : List Change) → HasNoRepeats cs → merged cs ≡ cs
 unfolding merged
 none-repeats cs none = merged-apart [] cs none
+
+module _ (batch copy kept : List Change) (is : copy ≡ batch) (so : kept ≡ merged copy) where
+  pub kept-all : length kept ≡ length batch → HasNoRepeats batch × (kept ≡ batch)
+  kept-all count =
+      let e : kept ≡ merged batch = so ∙ ap merged is in
+      let same = all-kept batch (sym (ap length e) ∙ count) in
+      (subst HasNoRepeats same (merged-HasNoRepeats batch), e ∙ same)
+
+  pub kept-fewer : (length kept ≡ length batch → ⊥) → HasNoRepeats batch → ⊥
+  kept-fewer differ none = differ (ap length (so ∙ ap merged is ∙ none-repeats batch none))

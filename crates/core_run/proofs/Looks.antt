@@ -19,10 +19,10 @@ drop-here items i d h = rw add-one (drop-cons items i d h)
 
 module _ (p : ℕ → Bool) (items : List ℕ) (i d : ℕ) (h : i < length items) where
   pub find-past : p (get_or items i d) ≡ false → find p (drop i items) ≡ find p (drop (i + 1) items)
-  find-past no = ap (find p) (drop-here items i d h) ∙ ap (λ b. cond b (Some (get_or items i d)) (find p (drop (i + 1) items))) no
+  find-past other = ap (find p) (drop-here items i d h) ∙ ap (λ b. cond b (Some (get_or items i d)) (find p (drop (i + 1) items))) other
 
   pub find-here : p (get_or items i d) ≡ true → find p (drop i items) ≡ Some (get_or items i d)
-  find-here yes = ap (find p) (drop-here items i d h) ∙ ap (λ b. cond b (Some (get_or items i d)) (find p (drop (i + 1) items))) yes
+  find-here here = ap (find p) (drop-here items i d h) ∙ ap (λ b. cond b (Some (get_or items i d)) (find p (drop (i + 1) items))) here
 
 -- ---- the end
 

@@ -1,14 +1,19 @@
 -- One entry: when it is possible, and what stands after it.
-use Rattle.std.proofs.Common.{◌≡◌, ◌≢◌, Bool, true, false, ℕ, zero, suc, ◌+◌, ◌<◌, ◌≤◌, List, [], ◌∷◌, ◌++◌, length, get_or, take, drop, refl, sym, ◌∙◌, ap, subst, arith, add-one}
+use Rattle.std.proofs.Common.{◌≡◌, ◌≢◌, Bool, true, false, ℕ, zero, suc, ◌+◌, ◌/◌, ◌<◌, ◌≤◌, List, [], ◌∷◌, ◌++◌, length, get_or, take, drop, refl, sym, ◌∙◌, ap, subst, arith, add-one}
 use Rattle.std.proofs.lemmas.Bool.{false≢true}
-use Rattle.std.specs.Prelude.{Option, Some, None, remove}
+use Rattle.std.specs.Prelude.{Option, Some, None, IfSome, remove}
+use Rattle.std.specs.List.{slice_get}
+use Rattle.std.proofs.lemmas.Option.{slice_get-get_or}
 use Rattle.std.specs.Bool.{Decides}
 use Rattle.core_machine.specs.declared.entry.Entry.{Entry}
 use Rattle.core_machine.specs.declared.machine.Machine.{Machine}
 use Rattle.core_machine.specs.declared.machine.Opening.{Opening}
-use Rattle.core_machine.specs.Texts.{has, SameNames, IsInForm, with_names}
+use Rattle.core_machine.specs.Texts.{has, SameNames, IsInForm, with_names, all_texts}
+use Rattle.merge_ranges.specs.Cut.{canon}
+use Rattle.merge_ranges.specs.CanonicalNames.{canonical_names}
+use Rattle.agg_model.specs.declared.entity.Range.{Range}
 use Rattle.core_machine.specs.Sound.{has_row, in_rows}
-use Rattle.core_machine.specs.Entries.{IsPossible, ArePossible, after, replay, IsOpen, IsUnseen, after_open, after_close}
+use Rattle.core_machine.specs.Entries.{IsPossible, ArePossible, after, replay, IsFirstImpossible, IsSettled, IsOpen, IsUnseen, after_open, after_close}
 use Rattle.core_machine.proofs.Kept.{possible-append, replay-append}
 use Rattle.core_run.specs.declared.running.Row.{Row}
 use Rattle.core_run.specs.declared.running.Running.{Running}
@@ -66,3 +71,23 @@ module _ (start : Machine) (entries : List Entry) (i : ℕ) (entry : Entry) (bel
   pub is-next : (n : Machine) → n ≡ after m entry → n ≡ replay start (take (i + 1) entries)
   is-next n e =
       e ∙ ap (λ x. after x entry) now ∙ sym (ap (replay start) (take-more entries i entry below is) ∙ replay-append start (take i entries) (entry ∷ []))
+
+  -- the entry is the first that isn't possible
+  pub first-refused : ArePossible start (take i entries) → (IsPossible m entry → ⊥) → IsFirstImpossible start entries i
+  first-refused before cannot = record {
+    within = below;
+    before = before;
+    not_there =
+        let P : Option Entry → Type 0 = λ o. IfSome o (λ e. IsPossible (replay start (take i entries)) e → ⊥) in
+        subst P (sym (slice_get-get_or entries i entry below ∙ ap Some (sym is))) (λ may. cannot (subst (λ n. IsPossible n entry) (sym now) may));
+  }
+
+-- ---- settled
+
+pub settled-decides : (m : Machine) (names s w : List (List ℕ)) (cut : List Range) (b seen : Bool) → IsInForm m.visible → s ≡ with_names [] names → Decides seen (s ≡ m.visible) → seen ≡ true
+    → cut ≡ canon (m.next / m.size) → w ≡ with_names [] (all_texts cut) → Decides b (s ≡ w) → Decides b (IsSettled m names)
+unfolding canonical_names
+settled-decides m names s w cut b seen form is sees on so this d =
+    let rs = canon (m.next / m.size) in
+    let same : Decides b (SameNames names (all_texts rs)) = decides-at names (all_texts rs) s w b is (this ∙ ap (λ l. with_names [] (all_texts l)) so) d in
+    (λ h. record { visible = (decides-form names m.visible s seen is form sees).0 on; canonical = same.0 h }, λ h. same.1 h.canonical)

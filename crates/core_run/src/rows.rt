@@ -27,6 +27,18 @@ pub fn place_of_row(rows: &[Row], caller: u32, number: u64) -> Option<usize>
     None
 }
 
+/// Whether the caller has an open row of this number.
+pub fn is_open(rows: &[Row], caller: u32, number: u64) -> bool
+    ensures { result ≡ has_row (openings rows.now) caller number }
+{
+    for row in rows {
+        if is_row(row, caller, number) {
+            return true;
+        }
+    }
+    false
+}
+
 /// Whether the name is in an open row: one look into each row.
 pub fn is_in_rows(rows: &[Row], name: &Bytes) -> bool
     ensures { result ≡ in_rows (openings rows.now) name.now }

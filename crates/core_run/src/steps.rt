@@ -10,7 +10,7 @@ ghost use Rattle.core_run.specs.Runs.{Steps};
 use crate::batches::{append, is_batch, next_after, without_repeats};
 use crate::names::{add_names, are_same, has_name, names_over, remove_name, remove_names, set_of};
 use crate::publish::is_publish;
-use crate::rows::{is_in_rows, place_of_row};
+use crate::rows::{is_in_rows, is_open, place_of_row};
 use crate::running::{Row, Running};
 use agg_model::{Batch, STEPS_MOST};
 use agg_outside::{Bytes, Memory, Names};
@@ -50,7 +50,7 @@ fn open(
     requires { IsSound (machine_of running.old) }
     ensures { IfOk result (Steps (machine_of running.old) (Open caller number names.now) (machine_of running.new)) }
 {
-    if let Some(_) = place_of_row(running.rows.as_slice(), caller, number) {
+    if is_open(running.rows.as_slice(), caller, number) {
         return Ok(false);
     }
     let names = set_of(alloc, names)?;

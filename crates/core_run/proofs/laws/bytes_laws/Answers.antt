@@ -2,4 +2,4 @@ use Rattle.agg_core.proofs.Stays.{file_bytes-later}
 use Rattle.core_run.proofs.laws.bytes_laws.Goals as goal
 
 pub returns : goal.returns
-returns c = file_bytes-later
+returns c = record { lasting = file_bytes-later }

@@ -26,4 +26,4 @@ returns c =
     let over : length items ≤ c.loop-name.name-index = omega arith in
     let now = c.loop-name.set.keys in
     let inv = c.loop-name.invariant in
-    without-done c.args.set.now.keys now c.args.names.now inv.was inv.form (λ q. ap (λ l. has now q && not (has l q)) (sym (drop_all items c.loop-name.name-index over)) ∙ inv.left q)
+    without-done c.args.set.now.keys now c.args.names.now inv.was inv.form (λ q. ap (λ l. has now q && not (has l q)) (sym (drop_all _ _ over)) ∙ inv.left q)
