@@ -17,13 +17,17 @@ fn empty(alloc: Global, size: u64) -> Machine
     requires within { size ≤ 2 ^ 32 }
     ensures { IsSound result }
 {
+    let changes = ListOf::new(alloc);
+    let opened = ListOf::new(alloc);
+    let present = ListOf::new(alloc);
+    let visible = ListOf::new(alloc);
     Machine {
-        changes: ListOf::new(alloc),
+        changes,
         next: 0,
         size,
-        opened: ListOf::new(alloc),
-        present: ListOf::new(alloc),
-        visible: ListOf::new(alloc),
+        opened,
+        present,
+        visible,
     }
 }
 

@@ -6,6 +6,11 @@ use Rattle.core_run.specs.Running.{machine_of}
 use Rattle.core_run.proofs.NameSets.{drop-here}
 use Rattle.core_run.proofs.steps.are_stray_names.Goals as goal
 
+pub loop-name-init : goal.loop-name-init
+loop-name-init c =
+    let P : List ℕ → Type 0 = IsStrayName (machine_of c.args.running.now) in
+    λ all. subst (λ (l : List (List ℕ)). All P l) c.as_slice-name-items.ensures all
+
 pub loop-name-preserved : goal.loop-name-preserved
 loop-name-preserved c =
     let items = c.as_slice-name-items.result.now in
