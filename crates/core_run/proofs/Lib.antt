@@ -5,3 +5,4 @@ pub mod Candidates
 pub mod Ingests
 pub mod StepLaws
 pub mod Empty
+pub mod Callers

@@ -3,3 +3,4 @@ pub mod Rows
 pub mod Publishes
 pub mod Ingests
 pub mod Runs
+pub mod Legal
