@@ -97,16 +97,16 @@ fn sweep(alloc: Global, name: &[u8]) -> Result<Entry, Memory> {
     Ok(Entry::Sweep { caller: 2, name })
 }
 
-fn place_of(result: Result<Machine, CoreError>) -> Option<u64> {
-    match result {
+fn place_of(ended: Result<Machine, CoreError>) -> Option<u64> {
+    match ended {
         Err(CoreError::NotLegal { place }) => Some(place),
         _ => None,
     }
 }
 
 // How many rows are open, and how many names are present and visible.
-fn counts(result: Result<Machine, CoreError>) -> Option<(usize, usize, usize)> {
-    match result {
+fn counts(ended: Result<Machine, CoreError>) -> Option<(usize, usize, usize)> {
+    match ended {
         Ok(machine) => Some((
             machine.opened.len(),
             machine.present.len(),
@@ -132,11 +132,11 @@ fn one_step(alloc: Global) -> Result<Vec<Entry>, Memory> {
 fn a_visible_name_is_not_swept(rt: HostRuntime) -> Result<(), Fail> {
     let alloc = rt.alloc();
     let mut entries = one_step(alloc)?;
-    let result = run_core(alloc, empty(alloc, 1), entries.as_slice());
-    assert!(rt; counts(result) == Some((1, 29, 29)));
+    let ended = run_core(alloc, empty(alloc, 1), entries.as_slice());
+    assert!(rt; counts(ended) == Some((1, 29, 29)));
     entries.push(sweep(alloc, b"v1-code.0-1.kv")?)?;
-    let result = run_core(alloc, empty(alloc, 1), entries.as_slice());
-    assert!(rt; place_of(result) == Some(3));
+    let ended = run_core(alloc, empty(alloc, 1), entries.as_slice());
+    assert!(rt; place_of(ended) == Some(3));
     Ok(())
 }
 
@@ -163,11 +163,11 @@ fn two_steps(alloc: Global) -> Result<Vec<Entry>, Memory> {
 fn an_open_row_keeps_what_a_merge_replaced(rt: HostRuntime) -> Result<(), Fail> {
     let alloc = rt.alloc();
     let mut entries = two_steps(alloc)?;
-    let result = run_core(alloc, empty(alloc, 1), entries.as_slice());
-    assert!(rt; counts(result) == Some((1, 65, 51)));
+    let ended = run_core(alloc, empty(alloc, 1), entries.as_slice());
+    assert!(rt; counts(ended) == Some((1, 65, 51)));
     entries.push(sweep(alloc, b"v1-accounts.1-2.kv")?)?;
-    let result = run_core(alloc, empty(alloc, 1), entries.as_slice());
-    assert!(rt; place_of(result) == Some(5));
+    let ended = run_core(alloc, empty(alloc, 1), entries.as_slice());
+    assert!(rt; place_of(ended) == Some(5));
     Ok(())
 }
 
@@ -180,7 +180,7 @@ fn a_closed_row_keeps_nothing(rt: HostRuntime) -> Result<(), Fail> {
         number: 7,
     })?;
     entries.push(sweep(alloc, b"v1-accounts.1-2.kv")?)?;
-    let result = run_core(alloc, empty(alloc, 1), entries.as_slice());
-    assert!(rt; counts(result) == Some((0, 64, 51)));
+    let ended = run_core(alloc, empty(alloc, 1), entries.as_slice());
+    assert!(rt; counts(ended) == Some((0, 64, 51)));
     Ok(())
 }
