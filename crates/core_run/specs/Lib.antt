@@ -1,0 +1,6 @@
+pub mod Running
+pub mod Rows
+pub mod Publishes
+pub mod Ingests
+pub mod Runs
+pub mod Legal
