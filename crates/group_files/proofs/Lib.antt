@@ -1,0 +1,4 @@
+mod RenameLaws
+mod FileWalks
+mod PublishedLaws
+mod NameFiles

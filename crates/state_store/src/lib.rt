@@ -1,0 +1,13 @@
+//! The accepted changes of a session: versioned rows in a keeper, sets of groups, and their files on a disk.
+#![tactic(auto)]
+
+mod stop;
+mod store;
+mod view;
+
+pub use stop::Stop;
+pub use store::Store;
+pub use view::View;
+
+#[cfg(test)]
+mod tests;
