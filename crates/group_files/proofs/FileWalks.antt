@@ -66,19 +66,19 @@ nothing_written (Some f) = refl
 -- ---- stopped
 
 pub untouched : (new : List NewFile) (f : Files) → IsStopped new f f
-untouched new f = record { done = []; rest = new; parts = refl; left = λ text other. refl; }
+untouched new f = record { done = []; rest = new; parts = refl; left = λ text other. refl }
 
 nothing_behind_files : (l : List NewFile) → l ≡ l ++ []
 nothing_behind_files [] = refl
 nothing_behind_files (n ∷ ns) = ap (λ l. n ∷ l) (nothing_behind_files ns)
 
 pub finished : (new : List NewFile) (f : Files) → IsStopped new f (with_files new f)
-finished new f = record { done = new; rest = []; parts = nothing_behind_files new; left = λ text other. refl; }
+finished new f = record { done = new; rest = []; parts = nothing_behind_files new; left = λ text other. refl }
 
 -- one file
 pub stopped_one : (n : NewFile) (f g : Files) → LeftBy (temporary_of n.name) (spelled n.name) n.bytes f g → IsStopped (n ∷ []) f g
-stopped_one n f g (inl same) = record { done = []; rest = n ∷ []; parts = refl; left = same; }
-stopped_one n f g (inr done) = record { done = n ∷ []; rest = []; parts = refl; left = λ text other. ap (λ (h : Files). get h text) done; }
+stopped_one n f g (inl same) = record { done = []; rest = n ∷ []; parts = refl; left = same }
+stopped_one n f g (inr done) = record { done = n ∷ []; rest = []; parts = refl; left = λ text other. ap (λ (h : Files). get h text) done }
 
 -- a name that isn't the first of these is not the first of the front of them
 first_of_front : (a b : List NewFile) (text : List ℕ) → IsNotFirst (a ++ b) text → IsNotFirst a text

@@ -128,11 +128,7 @@ fn add_kinds(
 }
 
 /// Adds the names of the files of a group, in the order of kinds.
-pub(crate) fn add_names(
-    alloc: Global,
-    names: &mut Names,
-    group: &EntityFiles,
-) -> Result<(), Memory>
+pub(crate) fn add_names(alloc: Global, names: &mut Names, group: &EntityFiles) -> Result<(), Memory>
     ensures { OnOk result (names.new ≡ names.old ++ map spelled (new_names (files_of group.now))) }
 {
     add_kinds(alloc, names, group, &KINDS)

@@ -67,7 +67,10 @@ fn a_fault_leaves_whole_files_and_one_temporary_name(rt: HostRuntime) -> Result<
     let alloc = rt.alloc();
     let groups = one_put(&rt, alloc)?;
     let mut disk = MemDisk::new(alloc, &FileMap::new(alloc), &[EIGHTH_RENAME])?;
-    assert_eq!(rt; publish_groups(alloc, &mut disk, groups.as_slice()), Err(DiskError::Failed));
+    assert_eq!(rt;
+        publish_groups(alloc, &mut disk, groups.as_slice()),
+        Err(DiskError::Failed)
+    );
     assert_eq!(rt; disk.files().len(), 8);
     assert!(rt; disk.files().find(EIGHTH).is_none());
     assert!(rt; disk.files().find(EIGHTH_TEMPORARY).is_some());
