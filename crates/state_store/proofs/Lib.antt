@@ -1,1 +1,2 @@
 mod ViewLaws
+mod AcceptLaws

@@ -27,7 +27,7 @@ use Rattle.agg_core.proofs.Kept.{outside-refl}
 use Rattle.group_files.specs.NewFiles.{names_for}
 use Rattle.state_store.specs.declared.store.Store.{Store}
 use Rattle.state_store.specs.declared.view.View.{View}
-use Rattle.state_store.specs.Store.{seen_from, told_from, IsSingle, SeesAll, Holds, Sees, Goes, set_of, pins_of, ArePinned, HasNoFile, no_changes}
+use Rattle.state_store.specs.Store.{seen_from, told_from, IsStepBelow, AreBelow, SeesAll, IsStore, Holds, Sees, Goes, set_of, pins_of, ArePinned, HasNoFile, no_changes}
 
 -- ---- what is opened sees the list
 
@@ -65,7 +65,7 @@ pub holds_with : {D K : Type 0} (disk : DiskGhosts D) (store : Store D K) (sets 
 holds_with disk store sets list same holds =
     let P : SetOf GroupFiles → Type 0 = λ s. s.end * list.size ≤ list.next in
     let Q : SetOf GroupFiles → Type 0 = λ s. AreGroupsBelow list s.end s.groups in
-    let R : SetOf GroupFiles → Type 0 = λ s. All IsSingle s.groups in
+    let R : SetOf GroupFiles → Type 0 = λ s. All (IsStepBelow s.end) s.groups in
     let S : SetOf GroupFiles → Type 0 = λ s. ForSome (disk.files store.disk) (HasExactly list (names_for s.groups)) in
     record {
       valid = holds.valid;
@@ -136,7 +136,7 @@ pub holds_none : {D K : Type 0} (disk : DiskGhosts D) (store : Store D K) (size 
 holds_none disk store size some small rows files next content is_size groups end =
     let P : List GroupFiles → Type 0 = λ gs. AreGroupsBelow (no_changes size) store.sets.current.end gs in
     let Q : ℕ → Type 0 = λ n. AreGroupsBelow (no_changes size) n [] in
-    let R : List GroupFiles → Type 0 = λ gs. All IsSingle gs in
+    let R : List GroupFiles → Type 0 = λ gs. All (IsStepBelow store.sets.current.end) gs in
     let S : List GroupFiles → Type 0 = λ gs. ForSome (disk.files store.disk) (HasExactly (no_changes size) (names_for gs)) in
     let T : ℕ → Type 0 = λ n. n * size ≤ 0 in
     record {
@@ -155,6 +155,35 @@ holds_none disk store size some small rows files next content is_size groups end
       size = is_size;
       complete = subst T (sym end) (omega arith);
       groups = subst P (sym groups) (subst Q (sym end) (λ e. ([], (refl, refl))));
-      single = subst R (sym groups) (All-nil IsSingle);
+      single = subst R (sym groups) (All-nil (IsStepBelow store.sets.current.end));
       stand = subst S (sym groups) (λ f told. nothing_stands size f (files f told));
+    }
+
+none_below : (o : Option Held) (epoch : ℕ) → ForSome o (λ h. h.rows ≡ []) → ForSome o (λ h. All (λ c. c.tx < 0) (changes_seen epoch h.rows))
+none_below o epoch none = λ h told.
+    subst (λ (rows : List Row). All (λ c. c.tx < 0) (changes_seen epoch rows)) (sym (none h told)) (All-nil (λ (c : Change). c.tx < 0))
+
+pub sound_none : {D K : Type 0} (store : Store D K) (most : ℕ) → 1 ≤ store.size → store.size ≤ 2 ^ 32 → ForSome store.hot.told (λ h. h.rows ≡ []) → store.next ≡ 0 → store.content ≡ 0 → store.sets.current.end ≡ 0 → IsStore most store
+sound_none store most some small rows next content end =
+    let P : ℕ → Type 0 = λ n. n * store.size ≤ store.next in
+    let Q : ℕ → Type 0 = λ n. AreBelow n store.hot in
+    record {
+      size_from_one = some;
+      size_within = small;
+      next_within = omega (arith, next);
+      content = omega (arith, content);
+      complete = subst P (sym end) (omega arith);
+      below = subst Q (sym next) (none_below store.hot.told store.hot.epoch rows);
+    }
+
+pub sound_with : {D K : Type 0} (store : Store D K) (sets : SetsOf GroupFiles) (most : ℕ) → sets.current ≡ store.sets.current → IsStore most store → IsStore most (record store { sets = sets })
+sound_with store sets most same sound =
+    let P : SetOf GroupFiles → Type 0 = λ s. s.end * store.size ≤ store.next in
+    record {
+      size_from_one = sound.size_from_one;
+      size_within = sound.size_within;
+      next_within = sound.next_within;
+      content = sound.content;
+      complete = subst P (sym same) sound.complete;
+      below = sound.below;
     }

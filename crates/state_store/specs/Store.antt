@@ -1,15 +1,17 @@
 -- Which list a store of versioned rows and of sets of groups holds, what its views see, and what each call keeps.
-use Rattle.std.specs.Prelude.{◌≡◌, ℕ, ◌+◌, ◌*◌, ◌<◌, ◌≤◌, ◌^◌, nat_le, List, [], ◌∷◌, All, Option, None, IsSomeAnd}
+use Rattle.std.specs.Prelude.{◌≡◌, ℕ, ◌+◌, ◌*◌, ◌<◌, ◌≤◌, ◌^◌, nat_le, List, [], ◌∷◌, length, All, Option, IfSome, IfNone, IsSomeAnd, is_some, Result, IsErrOf}
 use Rattle.std.specs.Arc.{arc_value}
 use Rattle.std.specs.FinMap.{get}
 use Rattle.std.specs.Option.{ForSome, option_map}
 use Rattle.std.specs.List.{filter}
 use Rattle.agg_outside.specs.declared.disk.Disk.{Ghosts as DiskGhosts}
+use Rattle.agg_outside.specs.Counts.{Rose}
 use Rattle.agg_outside.specs.Files.{Files}
 use Rattle.agg_outside.specs.Rows.{Held}
 use Rattle.agg_model.specs.Arranged.{arranged}
 use Rattle.agg_model.specs.Batch.{content_of}
-use Rattle.agg_model.specs.ChangeList.{ChangeList, IsChangeList}
+use Rattle.agg_model.specs.ChangeList.{ChangeList, IsChangeList, grown, next_of, may_grow}
+use Rattle.agg_model.specs.Merged.{merged}
 use Rattle.agg_model.specs.declared.change.Change.{Change}
 use Rattle.merge_ranges.specs.declared.name.FileName.{FileName}
 use Rattle.collate_step.specs.Groups.{GroupFiles, AreGroupsBelow}
@@ -21,6 +23,9 @@ use Rattle.visible_files.specs.Sets.{SetOf}
 use Rattle.window_reads.specs.Standing.{Stand}
 use Rattle.agg_core.specs.Files.{HasExactly, SameOutside}
 use Rattle.group_files.specs.NewFiles.{names_for}
+use Rattle.state_store.specs.declared.accepting.Accepted.{Accepted}
+use Rattle.state_store.specs.declared.stop.Stop.{Stop}
+use Rattle.state_store.specs.declared.stop.Stop.TheVariants as stops
 use Rattle.state_store.specs.declared.store.Store.{Store}
 use Rattle.state_store.specs.declared.view.View.{View}
 
@@ -31,9 +36,22 @@ seen_from epoch from h = filter (λ c. nat_le from c.tx) (changes_seen epoch h.r
 abbrev pub told_from : ℕ → ℕ → Versions → Option (List Change)
 told_from epoch from hot = option_map (seen_from epoch from) hot.told
 
--- a group over one step
-abbrev pub IsSingle : GroupFiles → Type 0
-IsSingle g = g.range.to ≡ g.range.from + 1
+-- a group over one step below this one
+abbrev pub IsStepBelow : ℕ → GroupFiles → Type 0
+IsStepBelow end g = (g.range.to ≡ g.range.from + 1) × (g.range.to ≤ end)
+
+-- all rows that the present epoch sees have numbers below this one
+abbrev pub AreBelow : ℕ → Versions → Type 0
+AreBelow next hot = ForSome hot.told (λ h. All (λ c. c.tx < next) (changes_seen hot.epoch h.rows))
+
+-- the numbers of the store fit, only complete steps have groups, and the rows that its keeper tells are below the next number
+pub record IsStore {D K : Type 0} (most : ℕ) (store : Store D K) : Type 0 where
+  pub size_from_one : 1 ≤ store.size
+  pub size_within : store.size ≤ 2 ^ 32
+  pub next_within : store.next ≤ 4096 * store.size
+  pub content : store.content ≤ most
+  pub complete : store.sets.current.end * store.size ≤ store.next
+  pub below : AreBelow store.next store.hot
 
 -- the present epoch sees the list's changes, sorted
 abbrev pub SeesAll : Versions → ChangeList → Type 0
@@ -49,7 +67,7 @@ pub record Holds {D K : Type 0} (disk : DiskGhosts D) (store : Store D K) (list 
   pub size : store.size ≡ list.size
   pub complete : store.sets.current.end * list.size ≤ list.next
   pub groups : AreGroupsBelow list store.sets.current.end store.sets.current.groups
-  pub single : All IsSingle store.sets.current.groups
+  pub single : All (IsStepBelow store.sets.current.end) store.sets.current.groups
   pub stand : ForSome (disk.files store.disk) (HasExactly list (names_for store.sets.current.groups))
 
 -- the set that a view has pinned
@@ -89,3 +107,17 @@ HasNoFile f = (text : List ℕ) → get f text ≡ None
 -- the list of no change, in steps of this size
 abbrev pub no_changes : ℕ → ChangeList
 no_changes size = record { changes = []; next = 0; size = size }
+
+-- a device is blamed only where its count of faults rose
+pub record HasCauses {T D K : Type 0} (disk : DiskGhosts D) (old new : Store D K) (result : Result T Stop) : Type 0 where
+  pub of_disk : IsErrOf result stops.Disk → Rose (disk.faults old.disk) (disk.faults new.disk)
+  pub of_keeper : IsErrOf result stops.Keeper → Rose old.hot.faults new.hot.faults
+
+-- what a commit answers, and the list that it leaves: the grown one, or the same where it is refused
+pub record Commits {D K : Type 0} (disk : DiskGhosts D) (most : ℕ) (list : ChangeList)
+    (pending : List Change) (answer : Option Accepted) (store : Store D K) : Type 0 where
+  pub could : is_some answer ≡ may_grow most list pending
+  pub told : IfSome answer (λ a.
+      a ≡ record { changes = length (merged pending); next = next_of list.next (merged pending) })
+  pub grows : IfSome answer (λ a. Holds disk store (grown list (merged pending)))
+  pub same : IfNone answer (Holds disk store list)

@@ -1,5 +1,5 @@
 //! The accepted changes, as versioned rows of a keeper and groups of files on a disk.
-ghost use Rattle.std.specs.Prelude.{◌≡◌, [], ◌∷◌, ◌*◌, ◌+◌, ◌<◌, ◌≤◌, ◌^◌, List, map, IfOk, OnErr, IsSomeAnd};
+ghost use Rattle.std.specs.Prelude.{◌≡◌, [], ◌∷◌, ◌*◌, ◌+◌, ◌<◌, ◌≤◌, ◌^◌, ℕ, List, map, IfOk, OnErr, IsSomeAnd};
 ghost use Rattle.std.specs.Option.{ForSome};
 ghost use Rattle.agg_model.specs.ChangeList.{ChangeList};
 ghost use Rattle.merge_ranges.specs.declared.name.FileName.{FileName};
@@ -7,7 +7,7 @@ ghost use Rattle.merge_ranges.specs.Name.{spelled};
 ghost use Rattle.visible_files.specs.Held.{count_of};
 ghost use Rattle.group_files.specs.NewFiles.{files_of_groups, new_names};
 ghost use Rattle.state_store.specs.declared.view.View.{View};
-ghost use Rattle.state_store.specs.Store.{Holds, Sees, Goes, ArePinned, HasNoFile, set_of, no_changes};
+ghost use Rattle.state_store.specs.Store.{IsStore, Holds, Sees, Goes, ArePinned, HasNoFile, set_of, no_changes};
 
 use crate::view::View;
 use agg_outside::{Disk, Keeper, Memory, Names};
@@ -45,6 +45,7 @@ impl<D: Disk, K: Keeper> Store<D, K> {
         ensures numbers { IfOk result (λ s. (s.next ≡ 0) × (s.content ≡ 0) × (s.size ≡ size)) }
         ensures set { IfOk result (λ s. (s.sets.current.groups ≡ []) × (s.sets.current.end ≡ 0)) }
         ensures pins { IfOk result (λ s. (n : FileName) → count_of s.sets.held n ≡ 0) }
+        ensures sound { (most : ℕ) → 1 ≤ size → size ≤ 2 ^ 32 → IfOk result (λ s. IsStore most s) }
         ensures holds { 1 ≤ size → size ≤ 2 ^ 32 → IsSomeAnd (K.held keeper) (λ h. h.rows ≡ []) →
             ForSome (D.files disk) HasNoFile → IfOk result (λ s. Holds D.Disk s (no_changes size)) }
     {
@@ -80,6 +81,7 @@ impl<D: Disk, K: Keeper> Store<D, K> {
         ensures unpinned { OnErr result (self.new.sets.held ≡ self.old.sets.held) }
         ensures current { self.new.sets.current ≡ self.old.sets.current }
         ensures others { self.new ≡ record self.old { sets = self.new.sets } }
+        ensures sound { (most : ℕ) → IsStore most self.old → IsStore most self.new }
         ensures holds { (list : ChangeList) → Holds D.Disk self.old list → Holds D.Disk self.new list }
         ensures goes { Goes D.Disk self.old self.new }
     {
@@ -98,6 +100,7 @@ impl<D: Disk, K: Keeper> Store<D, K> {
             ArePinned self.new.sets.held views }
         ensures current { self.new.sets.current ≡ self.old.sets.current }
         ensures others { self.new ≡ record self.old { sets = self.new.sets } }
+        ensures sound { (most : ℕ) → IsStore most self.old → IsStore most self.new }
         ensures holds { (list : ChangeList) → Holds D.Disk self.old list → Holds D.Disk self.new list }
         ensures goes { Goes D.Disk self.old self.new }
     {
