@@ -2,3 +2,4 @@ mod RenameLaws
 mod FileWalks
 mod PublishedLaws
 mod NameFiles
+mod ExactLaws

@@ -118,11 +118,11 @@ module _ (list : ChangeList) where
 -- ---- no two files of a step have one name
 
 module _ {X Y : Type 0} (P : Y → Type 0) (f : X → Y) where
-  un_map : (xs : List X) → All P (map f xs) → All (λ x. P (f x)) xs
+  pub un_map : (xs : List X) → All P (map f xs) → All (λ x. P (f x)) xs
   un_map [] all = All-nil (λ x. P (f x))
   un_map (x ∷ xs) all = All-cons (λ x. P (f x)) x xs (All-head P (f x) (map f xs) all) (un_map xs (All-tail P (f x) (map f xs) all))
 
-abbrev IsNamed : FileName → Type 0
+abbrev pub IsNamed : FileName → Type 0
 IsNamed n = is_name n ≡ true
 
 names_apart : (new : List NewFile) → All IsNamed (new_names new) → AllPairs (λ n o. n ≢ o) (new_names new) → AreApart new

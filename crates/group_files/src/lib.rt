@@ -7,7 +7,7 @@ mod laws;
 mod publishing;
 
 pub use groups::{group_names, publish_groups};
-pub use laws::{name_laws, publish_laws};
+pub use laws::{exact_laws, name_laws, publish_laws};
 pub use publishing::publish_file;
 
 #[cfg(test)]
