@@ -1,0 +1,5 @@
+mod RenameLaws
+mod FileWalks
+mod PublishedLaws
+mod NameFiles
+mod ExactLaws

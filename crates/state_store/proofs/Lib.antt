@@ -1,0 +1,2 @@
+mod ViewLaws
+mod AcceptLaws

@@ -1,0 +1,19 @@
+use Rattle.std.proofs.Common.{refl}
+use Rattle.state_store.proofs.ViewLaws.{sees_opened, holds_with, sound_with}
+use Rattle.state_store.proofs.store.Store.open.Goals as goal
+
+pub returns-in_err-set-clause-sound : goal.returns-in_err-set-clause-sound
+returns-in_err-set-clause-sound g c = λ most sound. sound_with c.args.self.now c.pin.new.self most c.in_err-set.ensures.current sound
+
+pub returns-in_err-set-clause-holds : goal.returns-in_err-set-clause-holds
+returns-in_err-set-clause-holds g c = λ list holds. holds_with g.D.Disk c.args.self.now c.pin.new.self list c.in_err-set.ensures.current holds
+
+pub returns-clause-sees : goal.returns-clause-sees
+returns-clause-sees g c = λ list holds.
+    sees_opened g.D.Disk c.args.self.now list holds (record { next = c.args.self.now.next; epoch = c.epoch.result; set = c.in_ok-set.set }) refl c.epoch.ensures.epoch c.in_ok-set.ensures.set
+
+pub returns-clause-sound : goal.returns-clause-sound
+returns-clause-sound g c = λ most sound. sound_with c.args.self.now c.pin.new.self most c.in_ok-set.ensures.current sound
+
+pub returns-clause-holds : goal.returns-clause-holds
+returns-clause-holds g c = λ list holds. holds_with g.D.Disk c.args.self.now c.pin.new.self list c.in_ok-set.ensures.current holds
