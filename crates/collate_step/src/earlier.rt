@@ -37,8 +37,8 @@ fn word_of_group<'a, L: Ledger>(
     kv.get(key, steps)
 }
 
-// The stored value of a key in the last of the groups of the entity that has it.
-fn newest_word<'a, L: Ledger>(
+/// The stored value of a key in the last of the groups of the entity that has it.
+pub fn newest_word<'a, L: Ledger>(
     entity: Entity,
     groups: &'a [Arc<EntityFiles>],
     key: &[u8],

@@ -10,6 +10,7 @@ mod runs;
 mod shared;
 mod step;
 
+pub use earlier::newest_word;
 pub use entity_files::EntityFiles;
 pub use laws::group_laws;
 pub use shared::shares_groups;

@@ -1,4 +1,3 @@
 pub mod NumberWalks
 pub mod Stands
-pub mod GroupWalks
 pub mod NumberPages

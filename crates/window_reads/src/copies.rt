@@ -9,7 +9,7 @@ use hot_keeper::ReadError;
 use std::alloc::Global;
 
 /// A copy of the bytes.
-pub(crate) fn copied(alloc: Global, bytes: &[u8]) -> Result<Bytes, ReadError>
+pub fn copied(alloc: Global, bytes: &[u8]) -> Result<Bytes, ReadError>
     ensures ok { IfOk result (λ copy. copy ≡ bytes.now) }
     ensures err { IfErr result (λ e. e ≡ NoMemory) }
 {

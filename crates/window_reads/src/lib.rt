@@ -10,7 +10,9 @@ mod reads;
 mod value;
 mod window;
 
+pub use copies::copied;
 pub use hot_keeper::ReadError;
+pub use looks::is_of;
 pub use page::TimesPage;
 pub use reads::{read_as_of, read_index, read_latest};
 pub use window::Window;

@@ -1,21 +1,21 @@
 //! Looks for a key into the groups of an entity.
-ghost use Rattle.std.specs.Prelude.{◌≡◌, ◌<◌, ◌*◌, ◌==◌, nat_le, map};
+ghost use Rattle.std.specs.Prelude.{◌≡◌, ◌*◌, ◌<◌, ◌==◌, nat_le, map};
 ghost use Rattle.std.specs.Arc.{arc_value};
 ghost use Rattle.std.specs.Option.{option_copied, option_or};
 ghost use Rattle.agg_model.specs.Entity.{entity_number};
-ghost use Rattle.agg_model.specs.Pairs.{newest_word, word_in};
-ghost use Rattle.collate_step.specs.Groups.{GroupFiles, pairs_for, word_of_group};
+ghost use Rattle.agg_model.specs.Pairs.{newest_word};
+ghost use Rattle.collate_step.specs.Groups.{GroupFiles, pairs_for};
 ghost use Rattle.window_reads.specs.Folds.{word_before_in, word_from, first_word};
 
 use agg_model::Entity;
 use agg_outside::Steps;
-use collate_step::EntityFiles;
+use collate_step::{EntityFiles, newest_word};
 use std::marker::Brand;
 use std::sync::Arc;
 use std::sync::ledger::{Blank, Ledger};
 
 /// Whether the group is one of the entity.
-pub(crate) fn is_of(group: &EntityFiles, entity: Entity) -> bool
+pub fn is_of(group: &EntityFiles, entity: Entity) -> bool
     ensures { result ≡ (entity_number group.now.entity == entity_number entity) }
 {
     group.entity().number() == entity.number()
@@ -26,41 +26,6 @@ fn ends_by(group: &EntityFiles, size: u64, n: u64) -> bool
     ensures { result ≡ nat_le (group.now.range.to * size) n }
 {
     u128::from(group.range().to) * u128::from(size) <= u128::from(n)
-}
-
-// The stored value of a key in a group, if it is one of the entity.
-fn word_of_group<'a, L: Ledger>(
-    entity: Entity,
-    group: &'a EntityFiles,
-    key: &[u8],
-    steps: &mut Steps<L>,
-) -> Option<&'a [u8]>
-    ensures { option_copied result ≡ word_of_group entity group.now key.now }
-{
-    if !is_of(group, entity) {
-        return None;
-    }
-    let kv = group.kv()?;
-    kv.get(key, steps)
-}
-
-// The stored value of a key in the last of the groups of the entity that has it.
-fn newest_word<'a, L: Ledger>(
-    entity: Entity,
-    files: &'a [Arc<EntityFiles>],
-    key: &[u8],
-    steps: &mut Steps<L>,
-) -> Option<&'a [u8]>
-    ensures { option_copied result ≡ newest_word (pairs_for entity (map (λ g. arc_value g) files.now)) key.now }
-{
-    let mut left = files.len();
-    while left > 0 {
-        left -= 1;
-        if let Some(word) = word_of_group(entity, &files[left], key, steps) {
-            return Some(word);
-        }
-    }
-    None
 }
 
 // The stored value before the first change of a key in a group from `n` on.

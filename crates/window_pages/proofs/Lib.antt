@@ -1,0 +1,3 @@
+pub mod KeyWalks
+pub mod NextKeys
+pub mod PageRows

@@ -1,0 +1,45 @@
+use Rattle.std.proofs.Common.{map, sym, ap, subst, ◌∙◌}
+use Rattle.std.specs.Arc.{arc_value}
+use Rattle.agg_model.specs.Contents.{times}
+use Rattle.agg_model.specs.Listed.{is_under}
+use Rattle.window_laws.specs.Pages.{IsNext, behind_key}
+use Rattle.window_pages.specs.Asking.{bound_of}
+use Rattle.window_pages.proofs.PageRows.{look-none, look-over, look-goes, stand-later}
+use Rattle.window_pages.proofs.look.look_from.Goals as goal
+
+pub returns-in_default-clause-rows : goal.returns-in_default-clause-rows
+returns-in_default-clause-rows g c = λ list stand domain.
+    let a = c.numbers_of-numbers.result.from in
+    let b = c.numbers_of-numbers.result.to in
+    let e = c.args.entity in
+    let next = subst (λ f. IsNext (λ k. times list.changes e k a b) f c.in_ok-next.next) c.as_slice-from.ensures (c.in_ok-next.ensures.next list c.args.size stand) in
+    look-none list e c.args.asked.now c.args.first.now a b c.in_ok-next.next c.numbers_of-numbers.ensures.from c.numbers_of-numbers.ensures.to c.in_default.is next
+
+pub returns-then-not-is_under-clause-rows : goal.returns-then-not-is_under-clause-rows
+returns-then-not-is_under-clause-rows g c = λ list stand domain.
+    let a = c.numbers_of-numbers.result.from in
+    let b = c.numbers_of-numbers.result.to in
+    let e = c.args.entity in
+    let q = c.args.asked.now in
+    let next = subst (λ f. IsNext (λ k. times list.changes e k a b) f c.in_ok-next.next) c.as_slice-from.ensures (c.in_ok-next.ensures.next list c.args.size stand) in
+    let over = sym (ap (is_under (bound_of q)) c.as_slice-bytes.ensures) ∙ sym c.is_under.ensures ∙ c.if-not-is_under.true in
+    look-over list e q c.args.first.now c.in-Some.key a b c.in_ok-next.next c.numbers_of-numbers.ensures.from c.numbers_of-numbers.ensures.to c.in-Some.is next over
+
+pub returns-clause-rows : goal.returns-clause-rows
+returns-clause-rows g c = λ list stand domain.
+    let a = c.numbers_of-numbers.result.from in
+    let b = c.numbers_of-numbers.result.to in
+    let e = c.args.entity in
+    let q = c.args.asked.now in
+    let files = map (λ g. arc_value g) c.args.files.now in
+    let W = g.W.Window in
+    let old = c.args.window.now in
+    let mid = c.next_key.new.window in
+    let laws = g.met.W.Window in
+    let later = c.in_ok-next.ensures.later in
+    let then = stand-later list files c.args.size (W.changes old) (W.changes mid) (W.first_step old) (W.first_step mid) (W.next_number old) (W.next_number mid)
+    (laws.same_changes old mid later) (laws.same_step old mid later) (laws.same_number old mid later) stand in
+    let next = subst (λ f. IsNext (λ k. times list.changes e k a b) f c.in_ok-next.next) c.as_slice-from.ensures (c.in_ok-next.ensures.next list c.args.size stand) in
+    let under = sym (ap (is_under (bound_of q)) c.as_slice-bytes.ensures) ∙ sym c.is_under.ensures ∙ c.if-not-is_under.false in
+    look-goes list e q c.args.first.now c.in-Some.key a b c.in_ok-next.next c.in_ok-row.row c.in_ok-behind.behind stand.are_changes c.numbers_of-numbers.ensures.from c.numbers_of-numbers.ensures.to c.in-Some.is next under
+    (c.in_ok-row.ensures.row list then domain) (c.in_ok-behind.ensures.ok ∙ ap behind_key c.as_slice-bytes.ensures)
