@@ -2,86 +2,95 @@ ghost use Rattle.std.specs.Prelude.{◌≡◌, ◌<◌};
 
 use super::*;
 use agg_model::{Act, Change, Entity, FileKind, Range};
-use agg_outside::{Bytes, Steps};
+use agg_outside::{Bytes, Memory, Steps};
 use std::alloc::Global;
 use std::marker::Brand;
 use std::process::Abort;
 use std::sync::ledger::{Blank, Ledger};
 use std::test::Fail;
-use word_file::{WordFile, WordWriter};
+use word_file::Tag;
 
-fn put(alloc: Global, tx: u64, key: &[u8], value: &[u8]) -> Result<Change, Fail> {
+/// The accounts files of one change: key aa has value 01.
+const KV: [u8; 50] = [
+    0x41, 0x47, 0x57, 0x31, 0, 0, 0, 1, 0, 0, 0, 0, 0, 0, 0, 1, 0, 0, 0, 0, 0, 0, 0, 0, 0, 0, 0, 0,
+    0, 0, 0, 1, 0, 0, 0, 0, 0, 0, 0, 2, 0, 0, 0, 1, 0xaa, 0, 0, 0, 1, 1,
+];
+
+const BT: [u8; 24] = [
+    0x41, 0x47, 0x42, 0x31, 0, 0, 0, 1, 0, 0, 0, 0, 0, 0, 0, 1, 0, 0, 0, 0, 0, 0, 0, 0x28,
+];
+
+const KVI: [u8; 56] = [
+    0x41, 0x47, 0x48, 0x31, 1, 0, 0, 0, 0, 0, 0, 0, 0, 0, 0, 1, 0, 0, 0, 0, 0, 0, 0, 0, 0, 0, 0, 0,
+    0, 0, 0, 0, 0, 0, 0, 0, 0, 0, 0, 1, 0, 0, 0, 0, 0, 0, 0, 0, 0, 0, 0, 0, 0, 0, 0, 0x28,
+];
+
+/// The files of code without a key.
+const EMPTY_KV: [u8; 40] = [
+    0x41, 0x47, 0x57, 0x31, 2, 0, 0, 1, 0, 0, 0, 0, 0, 0, 0, 1, 0, 0, 0, 0, 0, 0, 0, 0, 0, 0, 0, 0,
+    0, 0, 0, 1, 0, 0, 0, 0, 0, 0, 0, 0,
+];
+
+const EMPTY_BT: [u8; 16] = [0x41, 0x47, 0x42, 0x31, 0, 0, 0, 0, 0, 0, 0, 0, 0, 0, 0, 0];
+
+const EMPTY_KVI: [u8; 32] = [
+    0x41, 0x47, 0x48, 0x31, 1, 0, 0, 0, 0, 0, 0, 0, 0, 0, 0, 0, 0, 0, 0, 0, 0, 0, 0, 0, 0, 0, 0, 0,
+    0, 0, 0, 0,
+];
+
+/// A change of the accounts: a put of this value, or a deletion where it is 0.
+fn change(alloc: Global, tx: u64, key: u8, value: u8) -> Result<Change, Memory> {
+    let act = match value {
+        0 => Act::Del,
+        _ => Act::Put(Bytes::of(alloc, &[value])?),
+    };
     Ok(Change {
         tx,
         entity: Entity::Accounts,
-        key: Bytes::of(alloc, key)?,
-        act: Act::Put(Bytes::of(alloc, value)?),
+        key: Bytes::of(alloc, &[key])?,
+        act,
     })
 }
 
-fn del(alloc: Global, tx: u64, key: &[u8]) -> Result<Change, Fail> {
-    Ok(Change {
-        tx,
-        entity: Entity::Accounts,
-        key: Bytes::of(alloc, key)?,
-        act: Act::Del,
-    })
-}
-
-#[test]
-fn the_files_of_one_change_have_their_bytes(rt: HostRuntime) -> Result<(), Fail> {
-    let alloc = rt.alloc();
+/// The file of a step of four numbers, of changes each of which is a number, a key and a value.
+fn step_file(alloc: Global, step: u64, rows: &[(u64, u8, u8)]) -> Result<KvFile, Memory>
+    requires { step < 4096 }
+{
     let mut changes = Vec::new(alloc);
-    changes.push(put(alloc, 0, &[0xaa], &[1])?)?;
-    let file = build_step(alloc, Entity::Accounts, 1, 0, changes.as_slice())?;
-    assert!(rt;
-        file.bytes()
-            == [
-                0x41, 0x47, 0x57, 0x31, 0, 0, 0, 1, 0, 0, 0, 0, 0, 0, 0, 1, 0, 0, 0, 0, 0, 0, 0, 0,
-                0, 0, 0, 0, 0, 0, 0, 1, 0, 0, 0, 0, 0, 0, 0, 2, 0, 0, 0, 1, 0xaa, 0, 0, 0, 1, 1,
-            ]
-            .as_slice()
-    );
-    assert!(rt;
-        file.bt_bytes() == b"AGB1\0\0\0\x01\0\0\0\0\0\0\0\x01\0\0\0\0\0\0\0\x28".as_slice()
-    );
-    assert_eq!(rt; file.kvi_bytes().len(), 56);
-    assert!(rt;
-        file.kvi_bytes()
-            .starts_with(b"AGH1\x01\0\0\0\0\0\0\0\0\0\0\x01".as_slice())
-    );
-    assert!(rt;
-        file.kvi_bytes()
-            .ends_with(b"\0\0\0\x01\0\0\0\0\0\0\0\0\0\0\0\0\0\0\0\x28".as_slice())
-    );
-    let file = build_step(alloc, Entity::Accounts, 4, 0, changes.as_slice())?;
-    assert_eq!(rt; file.tag().step, 4);
-    Ok(())
-}
-
-#[test]
-fn files_of_no_key_have_their_headers(rt: HostRuntime) -> Result<(), Fail> {
-    let file = build_step(rt.alloc(), Entity::Code, 1, 0, &[])?;
-    assert_eq!(rt; file.bytes().len(), 40);
-    assert!(rt; file.bytes().starts_with(b"AGW1\x02\0\0\x01".as_slice()));
-    assert!(rt; file.bt_bytes() == b"AGB1\0\0\0\0\0\0\0\0\0\0\0\0".as_slice());
-    assert_eq!(rt; file.kvi_bytes().len(), 32);
-    assert!(rt;
-        file.kvi_bytes()
-            .starts_with(b"AGH1\x01\0\0\0\0\0".as_slice())
-    );
-    Ok(())
+    for (tx, key, value) in rows {
+        changes.push(change(alloc, *tx, *key, *value)?)?;
+    }
+    build_step(alloc, Entity::Accounts, 4, step, changes.as_slice())
 }
 
 /// aa put twice, bb put and deleted, cc put.
-fn some_changes(alloc: Global) -> Result<Vec<Change>, Fail> {
-    let mut changes = Vec::new(alloc);
-    changes.push(put(alloc, 4, &[0xaa], &[1])?)?;
-    changes.push(put(alloc, 6, &[0xaa], &[2])?)?;
-    changes.push(put(alloc, 5, &[0xbb], &[3])?)?;
-    changes.push(del(alloc, 7, &[0xbb])?)?;
-    changes.push(put(alloc, 4, &[0xcc], &[4])?)?;
-    Ok(changes)
+const SECOND: [(u64, u8, u8); 5] = [
+    (4, 0xaa, 1),
+    (6, 0xaa, 2),
+    (5, 0xbb, 3),
+    (7, 0xbb, 0),
+    (4, 0xcc, 4),
+];
+
+const FIRST: [(u64, u8, u8); 3] = [(0, 0xaa, 9), (1, 0xbb, 9), (2, 0xee, 5)];
+
+#[test]
+fn the_files_of_one_change_have_their_bytes(rt: HostRuntime) -> Result<(), Fail> {
+    let one = change(rt.alloc(), 0, 0xaa, 1)?;
+    let file = build_step(rt.alloc(), Entity::Accounts, 1, 0, &[one])?;
+    assert!(rt; file.bytes() == KV.as_slice());
+    assert!(rt; file.bt_bytes() == BT.as_slice());
+    assert!(rt; file.kvi_bytes() == KVI.as_slice());
+    Ok(())
+}
+
+#[test]
+fn the_files_of_no_change_have_their_bytes(rt: HostRuntime) -> Result<(), Fail> {
+    let file = build_step(rt.alloc(), Entity::Code, 1, 0, &[])?;
+    assert!(rt; file.bytes() == EMPTY_KV.as_slice());
+    assert!(rt; file.bt_bytes() == EMPTY_BT.as_slice());
+    assert!(rt; file.kvi_bytes() == EMPTY_KVI.as_slice());
+    Ok(())
 }
 
 fn looks<L: Ledger>(rt: &impl Abort, file: &KvFile, blank: Blank)
@@ -93,8 +102,6 @@ fn looks<L: Ledger>(rt: &impl Abort, file: &KvFile, blank: Blank)
     assert!(rt; file.get(&[0xaa], &mut steps) == Some([2].as_slice()));
     assert!(rt; file.get(&[0xbb], &mut steps) == Some([].as_slice()));
     assert!(rt; file.get(&[0xab], &mut steps).is_none());
-    assert!(rt; file.get(&[0xdd], &mut steps).is_none());
-    assert_eq!(rt; file.seek(&[0xaa], &mut steps), 0);
     assert_eq!(rt; file.seek(&[0xaa, 0], &mut steps), 1);
     assert_eq!(rt; file.seek(&[0xdd], &mut steps), 3);
     assert_eq!(rt; file.len(), 3);
@@ -103,65 +110,47 @@ fn looks<L: Ledger>(rt: &impl Abort, file: &KvFile, blank: Blank)
     assert!(rt; value == [4].as_slice());
 }
 
-fn looks_back<L: Ledger>(rt: &impl Abort, files: &[KvFile], blank: Blank)
-    requires name { blank.name ≡ L.name }
-    requires parts { blank.parts ≡ L.parts }
-    requires some { 0 < L.parts }
-{
-    let mut steps = Steps::<L>::of(blank);
-    assert!(rt; newest_value(files, &[0xaa], &mut steps) == Some([2].as_slice()));
-    assert!(rt; newest_value(files, &[0xbb], &mut steps).is_none());
-    assert!(rt; newest_value(files, &[0xee], &mut steps) == Some([5].as_slice()));
-    assert!(rt; newest_value(files, &[0xff], &mut steps).is_none());
-}
-
 #[test]
 fn a_later_step_keeps_a_deleted_key(rt: HostRuntime) -> Result<(), Fail> {
-    let changes = some_changes(rt.alloc())?;
-    let file = build_step(rt.alloc(), Entity::Accounts, 4, 1, changes.as_slice())?;
+    let file = step_file(rt.alloc(), 1, &SECOND)?;
     looks::<Brand>(&rt, &file, Blank::new(1));
     Ok(())
 }
 
 #[test]
-fn the_newest_file_with_the_key_decides(rt: HostRuntime) -> Result<(), Fail> {
-    let alloc = rt.alloc();
-    let mut first = Vec::new(alloc);
-    first.push(put(alloc, 0, &[0xaa], &[9])?)?;
-    first.push(put(alloc, 1, &[0xbb], &[9])?)?;
-    first.push(put(alloc, 2, &[0xee], &[5])?)?;
-    let second = some_changes(alloc)?;
-    let mut files = Vec::new(alloc);
-    files.push(build_step(alloc, Entity::Accounts, 4, 0, first.as_slice())?)?;
-    files.push(build_step(alloc, Entity::Accounts, 4, 1, second.as_slice())?)?;
-    looks_back::<Brand>(&rt, files.as_slice(), Blank::new(1));
-    Ok(())
-}
-
-#[test]
 fn the_first_step_leaves_a_deleted_key_out(rt: HostRuntime) -> Result<(), Fail> {
-    let changes = some_changes(rt.alloc())?;
-    let pairs = step_pairs(rt.alloc(), 0, changes.as_slice())?;
-    assert_eq!(rt; pairs.len(), 2);
-    assert!(rt; are_pairs(&pairs));
+    let file = step_file(rt.alloc(), 0, &SECOND)?;
+    assert_eq!(rt; file.len(), 2);
     Ok(())
 }
 
-#[test]
-fn keys_that_do_not_ascend_are_no_pairs(rt: HostRuntime) -> Result<(), Fail> {
-    let alloc = rt.alloc();
-    let mut pairs = Pairs::new(alloc);
-    for key in [0xbb, 0xaa] {
-        let key = Bytes::of(alloc, &[key])?;
-        let value = Bytes::of(alloc, &[])?;
-        pairs.push(Pair { key, value })?;
+/// The first byte of what the last of the files that has this key says of it; 0 where it has none.
+fn newest<L: Ledger>(files: &[KvFile], key: u8, blank: Blank) -> u8
+    requires name { blank.name ≡ L.name }
+    requires parts { blank.parts ≡ L.parts }
+    requires some { 0 < L.parts }
+{
+    let mut steps = Steps::<L>::of(blank);
+    match newest_value(files, &[key], &mut steps) {
+        Some([first, ..]) => *first,
+        Some([]) => 0xff,
+        None => 0,
     }
-    assert!(rt; !are_pairs(&pairs));
+}
+
+#[test]
+fn the_newest_file_with_the_key_decides(rt: HostRuntime) -> Result<(), Fail> {
+    let first = step_file(rt.alloc(), 0, &FIRST)?;
+    let second = step_file(rt.alloc(), 1, &SECOND)?;
+    let files = [first, second];
+    for (key, value) in [(0xaa, 2), (0xbb, 0), (0xee, 5), (0xff, 0)] {
+        assert_eq!(rt; newest::<Brand>(&files, key, Blank::new(1)), value);
+    }
     Ok(())
 }
 
 /// So many keys of two bytes, 00 01, 00 03 and so on, each its own value.
-fn odd_pairs(alloc: Global, count: u16) -> Result<Pairs, Fail> {
+fn odd_pairs(alloc: Global, count: u16) -> Result<Pairs, Memory> {
     let mut pairs = Pairs::new(alloc);
     for i in 0..count {
         let key = (i % 0x8000 * 2 + 1).to_be_bytes();
@@ -173,14 +162,25 @@ fn odd_pairs(alloc: Global, count: u16) -> Result<Pairs, Fail> {
     Ok(pairs)
 }
 
+/// The tag of an entity over the first step.
+fn tag_of(entity: Entity) -> Tag {
+    kv_tag(entity, 1, Range { from: 0, to: 1 })
+}
+
+/// The file of pairs that may be those of one.
+fn file_of(alloc: Global, pairs: &Pairs) -> Result<KvFile, Fail> {
+    if !are_pairs(pairs) {
+        return Err(Fail::from("they may be those of a file"));
+    }
+    Ok(build_kv(alloc, tag_of(Entity::Storage), pairs)?)
+}
+
 fn finds_each<L: Ledger>(rt: &impl Abort, file: &KvFile, count: u16, blank: Blank)
     requires name { blank.name ≡ L.name }
     requires parts { blank.parts ≡ L.parts }
     requires some { 0 < L.parts }
 {
     let mut steps = Steps::<L>::of(blank);
-    assert_eq!(rt; file.len(), u64::from(count));
-    assert_eq!(rt; file.form(), 1);
     for i in 0..count {
         let key = (i % 0x8000 * 2 + 1).to_be_bytes();
         let below = (i % 0x8000 * 2).to_be_bytes();
@@ -192,129 +192,151 @@ fn finds_each<L: Ledger>(rt: &impl Abort, file: &KvFile, count: u16, blank: Blan
 
 #[test]
 fn each_key_is_found(rt: HostRuntime) -> Result<(), Fail> {
-    let tag = kv_tag(Entity::Storage, 1, Range { from: 0, to: 1 });
     for count in [0, 1, 2, 17, 300] {
         let pairs = odd_pairs(rt.alloc(), count)?;
-        assert!(rt; are_pairs(&pairs));
-        let file = build_kv(rt.alloc(), tag, &pairs)?;
+        let file = file_of(rt.alloc(), &pairs)?;
+        assert_eq!(rt; file.len(), u64::from(count));
+        assert_eq!(rt; file.form(), 1);
         finds_each::<Brand>(&rt, &file, count, Blank::new(1));
     }
     Ok(())
 }
 
-fn texts_of(alloc: Global, words: &[&[u8]]) -> Result<WordFile, Fail> {
-    let tag = kv_tag(Entity::Storage, 1, Range { from: 0, to: 1 });
-    let mut writer = WordWriter::new(alloc, tag)?;
-    for word in words {
-        if word.len() < 100_000 {
-            writer.push(word)?;
-        }
-    }
-    Ok(writer.finish())
-}
-
-/// How these words are refused without their accessors, whose refusal is of the words' B-tree.
-fn refusal(alloc: Global, words: &[&[u8]]) -> Result<Option<FileError>, Fail> {
-    let tag = kv_tag(Entity::Storage, 1, Range { from: 0, to: 1 });
-    let kv = Bytes::of(alloc, texts_of(alloc, words)?.bytes())?;
-    let bt = Bytes::of(alloc, &[])?;
-    let kvi = Bytes::of(alloc, &[])?;
-    Ok(KvFile::check(alloc, tag, kv, bt, kvi).err())
+/// How these three files of an entity over the first step are refused, if they are.
+fn refusal(
+    alloc: Global,
+    entity: Entity,
+    kv: &[u8],
+    bt: &[u8],
+    kvi: &[u8],
+) -> Result<Option<FileError>, Memory> {
+    let kv = Bytes::of(alloc, kv)?;
+    let bt = Bytes::of(alloc, bt)?;
+    let kvi = Bytes::of(alloc, kvi)?;
+    Ok(KvFile::check(alloc, tag_of(entity), kv, bt, kvi).err())
 }
 
 fn bad(kind: FileKind, at: u64) -> Option<FileError> {
     Some(FileError::Bad { kind, at })
 }
 
+/// Where the words are refused that stand behind a header for so many; at 0 of the B-tree, which isn't there, where
+/// they aren't.
+fn words_refusal(alloc: Global, count: u8, words: &[u8]) -> Result<Option<FileError>, Memory> {
+    let mut kv = Vec::from_slice(alloc, b"AGW1\x01\0\0\x01\0\0\0\0\0\0\0\x01")?;
+    kv.extend_from_slice(b"\0\0\0\0\0\0\0\0\0\0\0\0\0\0\0\x01\0\0\0\0\0\0\0")?;
+    kv.push(count)?;
+    kv.extend_from_slice(words)?;
+    refusal(alloc, Entity::Storage, kv.as_slice(), &[], &[])
+}
+
+/// How a key 01 and then a key of so many bytes 07 are refused, both without a value.
+fn long_refusal(alloc: Global, length: u8) -> Result<Option<FileError>, Memory> {
+    let mut words = Vec::from_slice(alloc, b"\0\0\0\x01\x01\0\0\0\0\0\0\0")?;
+    words.push(length)?;
+    for _ in 0..length {
+        words.push(7)?;
+    }
+    words.extend_from_slice(b"\0\0\0\0")?;
+    words_refusal(alloc, 4, words.as_slice())
+}
+
 #[test]
-fn a_word_is_refused_at_its_offset(rt: HostRuntime) -> Result<(), Fail> {
-    let alloc = rt.alloc();
-    let long = [7; 65];
-    let whole = refusal(alloc, &[&[1], &[], &long[..64], &[]])?;
-    assert_eq!(rt; whole, bad(FileKind::Bt, 0));
-    let prefix = refusal(alloc, &[&[1], &[], &[1, 0], &[]])?;
-    assert_eq!(rt; prefix, bad(FileKind::Bt, 0));
-    assert_eq!(rt;
-        refusal(alloc, &[&[1], &[], &long, &[]])?,
-        bad(FileKind::Kv, 49)
-    );
-    assert_eq!(rt; refusal(alloc, &[&[], &[]])?, bad(FileKind::Kv, 40));
-    assert_eq!(rt;
-        refusal(alloc, &[&[2], &[], &[1], &[]])?,
-        bad(FileKind::Kv, 49)
-    );
-    assert_eq!(rt; refusal(alloc, &[&[2], &[], &[3]])?, bad(FileKind::Kv, 54));
+fn a_key_has_its_limits(rt: HostRuntime) -> Result<(), Fail> {
+    assert_eq!(rt; long_refusal(rt.alloc(), 64)?, bad(FileKind::Bt, 0));
+    assert_eq!(rt; long_refusal(rt.alloc(), 65)?, bad(FileKind::Kv, 49));
+    assert_eq!(rt; long_refusal(rt.alloc(), 0)?, bad(FileKind::Kv, 49));
     Ok(())
+}
+
+#[test]
+fn keys_ascend_and_have_values(rt: HostRuntime) -> Result<(), Fail> {
+    let prefix = b"\0\0\0\x01\x01\0\0\0\0\0\0\0\x02\x01\0\0\0\0\0";
+    let swapped = b"\0\0\0\x02\x01\0\0\0\0\0\0\0\0\x01\x01\0\0\0\0";
+    let lone = b"\0\0\0\x01\x02\0\0\0\0\0\0\0\x01\x03";
+    assert_eq!(rt; words_refusal(rt.alloc(), 4, prefix)?, bad(FileKind::Bt, 0));
+    assert_eq!(rt;
+        words_refusal(rt.alloc(), 4, swapped)?,
+        bad(FileKind::Kv, 50)
+    );
+    assert_eq!(rt; words_refusal(rt.alloc(), 3, lone)?, bad(FileKind::Kv, 54));
+    Ok(())
+}
+
+/// How a key 01 with a value of so many bytes is refused.
+fn value_refusal(alloc: Global, length: u32) -> Result<Option<FileError>, Memory> {
+    let mut words = Vec::from_slice(alloc, b"\0\0\0\x01\x01")?;
+    words.extend_from_slice(&length.to_be_bytes())?;
+    words.resize(length.saturating_add(9) as usize, 0)?;
+    words_refusal(alloc, 2, words.as_slice())
 }
 
 #[test]
 fn a_value_has_its_limit(rt: HostRuntime) -> Result<(), Fail> {
-    let alloc = rt.alloc();
-    let mut value = Vec::new(alloc);
-    value.resize(65_535, 0)?;
-    let whole = refusal(alloc, &[&[1], value.as_slice()])?;
-    assert_eq!(rt; whole, bad(FileKind::Bt, 0));
-    value.push(0)?;
-    let over = refusal(alloc, &[&[1], value.as_slice()])?;
-    assert_eq!(rt; over, bad(FileKind::Kv, 45));
+    assert_eq!(rt; value_refusal(rt.alloc(), 65_535)?, bad(FileKind::Bt, 0));
+    assert_eq!(rt; value_refusal(rt.alloc(), 65_536)?, bad(FileKind::Kv, 45));
     Ok(())
 }
 
-/// How the files are refused under the tag of this step.
-fn refused(
-    alloc: Global,
-    step: u64,
-    kv: &[u8],
-    bt: &[u8],
-    kvi: &[u8],
-) -> Result<Option<FileError>, Fail>
-    requires { step < 4 }
-{
-    let range = Range {
-        from: step,
-        to: step + 1,
-    };
-    let tag = kv_tag(Entity::Storage, 1, range);
-    let kv = Bytes::of(alloc, kv)?;
-    let bt = Bytes::of(alloc, bt)?;
-    let kvi = Bytes::of(alloc, kvi)?;
-    Ok(KvFile::check(alloc, tag, kv, bt, kvi).err())
+/// Whether each front of the words of one change is refused where it ends, or at the word that it cuts, or for the
+/// number of its words.
+fn fronts_are_refused(alloc: Global) -> Result<bool, Memory> {
+    for end in 0..50 {
+        let at = match end {
+            0..=39 => end,
+            40 | 45 => 32,
+            41..=44 => 40,
+            _ => 45,
+        };
+        let refused = refusal(alloc, Entity::Accounts, &KV[..end], &BT, &KVI)?;
+        if refused != bad(FileKind::Kv, at as u64) {
+            return Ok(false);
+        }
+    }
+    Ok(true)
 }
 
-/// A copy that ends so early, or has another last bit at this place.
-fn changed(alloc: Global, bytes: &[u8], end: usize, place: usize) -> Result<Vec<u8>, Fail> {
-    let mut out = Vec::from_slice(alloc, bytes)?;
-    out.truncate(end);
-    if let Some(byte) = out.get_mut(place) {
-        *byte ^= 1;
+/// Whether the B-tree is refused where it ends too early, and where a bit is turned.
+fn trees_are_refused(alloc: Global) -> Result<bool, Memory> {
+    for at in 0..24 {
+        let mut turned = BT;
+        turned[at] ^= 1;
+        let cut = refusal(alloc, Entity::Accounts, &KV, &BT[..at], &KVI)?;
+        let other = refusal(alloc, Entity::Accounts, &KV, &turned, &KVI)?;
+        if cut != bad(FileKind::Bt, at as u64) || other != bad(FileKind::Bt, at as u64) {
+            return Ok(false);
+        }
     }
-    Ok(out)
+    Ok(true)
+}
+
+/// Whether the hash accessor is refused where it ends too early, and where a bit is turned.
+fn accessors_are_refused(alloc: Global) -> Result<bool, Memory> {
+    for at in 0..56 {
+        let mut turned = KVI;
+        turned[at] ^= 1;
+        let cut = refusal(alloc, Entity::Accounts, &KV, &BT, &KVI[..at])?;
+        let other = refusal(alloc, Entity::Accounts, &KV, &BT, &turned)?;
+        if cut != bad(FileKind::Kvi, at as u64) || other != bad(FileKind::Kvi, at as u64) {
+            return Ok(false);
+        }
+    }
+    Ok(true)
 }
 
 #[test]
-fn a_changed_file_is_refused(rt: HostRuntime) -> Result<(), Fail> {
-    let alloc = rt.alloc();
-    let pairs = odd_pairs(alloc, 17)?;
-    assert!(rt; are_pairs(&pairs));
-    let tag = kv_tag(Entity::Storage, 1, Range { from: 0, to: 1 });
-    let file = build_kv(alloc, tag, &pairs)?;
-    let (kv, bt, kvi) = (file.bytes(), file.bt_bytes(), file.kvi_bytes());
-    assert_eq!(rt; refused(alloc, 0, kv, bt, kvi)?, None);
-    assert_eq!(rt; refused(alloc, 1, kv, bt, kvi)?, bad(FileKind::Kv, 16));
-    let cut = changed(alloc, kv, 50, 50)?;
-    assert_eq!(rt;
-        refused(alloc, 0, cut.as_slice(), bt, kvi)?,
-        bad(FileKind::Kv, 46)
-    );
-    let turned = changed(alloc, bt, 500, 23)?;
-    assert_eq!(rt;
-        refused(alloc, 0, kv, turned.as_slice(), kvi)?,
-        bad(FileKind::Bt, 23)
-    );
-    let cut = changed(alloc, kvi, 30, 30)?;
-    assert_eq!(rt;
-        refused(alloc, 0, kv, bt, cut.as_slice())?,
-        bad(FileKind::Kvi, 30)
-    );
+fn files_cut_or_turned_anywhere_are_refused(rt: HostRuntime) -> Result<(), Fail> {
+    assert!(rt; fronts_are_refused(rt.alloc())?);
+    assert!(rt; trees_are_refused(rt.alloc())?);
+    assert!(rt; accessors_are_refused(rt.alloc())?);
+    Ok(())
+}
+
+#[test]
+fn files_are_those_of_their_name_alone(rt: HostRuntime) -> Result<(), Fail> {
+    let named = refusal(rt.alloc(), Entity::Accounts, &KV, &BT, &KVI)?;
+    let other = refusal(rt.alloc(), Entity::Storage, &KV, &BT, &KVI)?;
+    assert_eq!(rt; named, None);
+    assert_eq!(rt; other, bad(FileKind::Kv, 4));
     Ok(())
 }

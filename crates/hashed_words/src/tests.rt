@@ -3,7 +3,7 @@ ghost use Rattle.word_file.specs.Paired.{IsPaired, KeysDiffer};
 
 use super::*;
 use agg_model::FileKind;
-use agg_outside::{Bytes, Steps};
+use agg_outside::{Bytes, Memory, Steps};
 use std::alloc::Global;
 use std::marker::Brand;
 use std::process::Abort;
@@ -37,19 +37,36 @@ const TAG: Tag = Tag {
     to: 2,
 };
 
-fn file_of(alloc: Global, words: &[&[u8]]) -> Result<WordFile, Fail> {
-    let mut writer = WordWriter::new(alloc, TAG)?;
-    for word in words {
-        if word.len() < 100 {
-            writer.push(word)?;
-        }
+/// The header of a file of this tag, but for the last byte of the number of words.
+const FRONT: [u8; 39] = [
+    0x41, 0x47, 0x57, 0x31, 3, 0, 0, 1, 0, 0, 0, 0, 0, 0, 0, 4, 0, 0, 0, 0, 0, 0, 0, 1, 0, 0, 0, 0,
+    0, 0, 0, 2, 0, 0, 0, 0, 0, 0, 0,
+];
+
+/// Two and three keys with empty values, an empty key behind another, and a key without a value word.
+const TWO: &[u8] = b"\0\0\0\x01\x01\0\0\0\0\0\0\0\x01\x02\0\0\0\0";
+
+const THREE: &[u8] = b"\0\0\0\x01\x01\0\0\0\0\0\0\0\x01\x02\0\0\0\0\0\0\0\x01\x03\0\0\0\0";
+
+const EMPTY: &[u8] = b"\0\0\0\x01\x01\0\0\0\0\0\0\0\0\0\0\0\0";
+
+const LONE: &[u8] = b"\0\0\0\x01\x01";
+
+/// The bytes with another last bit at this place, if there is such a place.
+fn turned(alloc: Global, bytes: &[u8], place: usize) -> Result<Vec<u8>, Memory> {
+    let mut out = Vec::from_slice(alloc, bytes)?;
+    if let Some(byte) = out.get_mut(place) {
+        *byte ^= 1;
     }
-    Ok(writer.finish())
+    Ok(out)
 }
 
-fn refusal(alloc: Global, tag: Tag, bytes: &[u8]) -> Result<Option<FileError>, Fail> {
-    let bytes = Bytes::of(alloc, bytes)?;
-    Ok(open_words(&AtMostTwo, FileKind::Kv, tag, bytes).err())
+/// Where a file of this tag is refused that has so many words, which are these bytes.
+fn refusal_of_words(alloc: Global, count: u8, words: &[u8]) -> Result<Option<FileError>, Memory> {
+    let mut bytes = Vec::from_slice(alloc, &FRONT)?;
+    bytes.push(count)?;
+    bytes.extend_from_slice(words)?;
+    Ok(open_words(&AtMostTwo, FileKind::Kv, TAG, Bytes::from_vec(bytes)).err())
 }
 
 fn bad(at: u64) -> Option<FileError> {
@@ -61,24 +78,24 @@ fn bad(at: u64) -> Option<FileError> {
 
 #[test]
 fn a_word_is_refused_at_its_offset(rt: HostRuntime) -> Result<(), Fail> {
-    let alloc = rt.alloc();
-    let two = file_of(alloc, &[&[1], &[], &[2], &[]])?;
-    assert_eq!(rt; refusal(alloc, TAG, two.bytes())?, None);
-    let three = file_of(alloc, &[&[1], &[], &[2], &[], &[3], &[]])?;
-    assert_eq!(rt; refusal(alloc, TAG, three.bytes())?, bad(63));
-    let empty = file_of(alloc, &[&[1], &[], &[], &[]])?;
-    assert_eq!(rt; refusal(alloc, TAG, empty.bytes())?, bad(49));
-    let lone = file_of(alloc, &[&[1]])?;
-    assert_eq!(rt; refusal(alloc, TAG, lone.bytes())?, bad(45));
+    assert_eq!(rt; refusal_of_words(rt.alloc(), 4, TWO)?, None);
+    assert_eq!(rt; refusal_of_words(rt.alloc(), 6, THREE)?, bad(63));
+    assert_eq!(rt; refusal_of_words(rt.alloc(), 4, EMPTY)?, bad(49));
+    assert_eq!(rt; refusal_of_words(rt.alloc(), 1, LONE)?, bad(45));
     Ok(())
+}
+
+/// Where a file of no words is refused that has another last bit at this place.
+fn refusal_of_turned(alloc: Global, place: usize) -> Result<Option<FileError>, Memory> {
+    let mut bytes = Vec::from_slice(alloc, &FRONT)?;
+    bytes.push(0)?;
+    let bytes = turned(alloc, bytes.as_slice(), place)?;
+    Ok(open_words(&AtMostTwo, FileKind::Kv, TAG, Bytes::from_vec(bytes)).err())
 }
 
 #[test]
 fn a_tag_is_refused_at_its_field(rt: HostRuntime) -> Result<(), Fail> {
-    let alloc = rt.alloc();
-    let file = file_of(alloc, &[])?;
-    let mut bytes = Vec::from_slice(alloc, file.bytes())?;
-    for (field, at) in [
+    for (place, at) in [
         (0, 0),
         (4, 4),
         (5, 5),
@@ -88,13 +105,8 @@ fn a_tag_is_refused_at_its_field(rt: HostRuntime) -> Result<(), Fail> {
         (31, 24),
         (39, 32),
     ] {
-        assert!(rt; bytes.len() == 40);
-        bytes[field] ^= 1;
-        assert_eq!(rt; refusal(alloc, TAG, bytes.as_slice())?, bad(at));
-        bytes[field] ^= 1;
+        assert_eq!(rt; refusal_of_turned(rt.alloc(), place)?, bad(at));
     }
-    bytes.truncate(39);
-    assert_eq!(rt; refusal(alloc, TAG, bytes.as_slice())?, bad(39));
     Ok(())
 }
 
@@ -109,6 +121,29 @@ fn keys_differ<L: Ledger>(words: &WordFile, blank: Blank) -> bool
     keys_ascend(words, &mut steps)
 }
 
+/// Words of two keys, 01 with the value 07 and 02 with none.
+fn two_keys(alloc: Global) -> Result<WordFile, Memory> {
+    let mut writer = WordWriter::new(alloc, TAG)?;
+    writer.push(&[1])?;
+    writer.push(&[7])?;
+    writer.push(&[2])?;
+    writer.push(&[])?;
+    Ok(writer.finish())
+}
+
+/// The words behind their accessor; behind this text of one, where it isn't empty.
+fn hashed(alloc: Global, accessor: &[u8]) -> Result<HashedWords, FileError> {
+    let words = two_keys(alloc)?;
+    if !is_paired(&words) || !keys_differ::<Brand>(&words, Blank::new(1)) {
+        return Err(FileError::Memory);
+    }
+    if accessor.is_empty() {
+        return Ok(HashedWords::of(alloc, words)?);
+    }
+    let accessor = Bytes::of(alloc, accessor)?;
+    HashedWords::check(alloc, FileKind::Kvi, words, accessor)
+}
+
 fn looks<L: Ledger>(rt: &impl Abort, words: &HashedWords, blank: Blank)
     requires name { blank.name ≡ L.name }
     requires parts { blank.parts ≡ L.parts }
@@ -120,33 +155,31 @@ fn looks<L: Ledger>(rt: &impl Abort, words: &HashedWords, blank: Blank)
     assert!(rt; words.value(&[], &mut steps).is_none());
     assert_eq!(rt; words.find(&[2], &mut steps), Some(50));
     assert_eq!(rt; words.find(&[7], &mut steps), None);
-    assert_eq!(rt; words.form(), 1);
 }
 
-fn check_accessor(alloc: Global, words: WordFile, accessor: Bytes) -> Option<FileError>
-    requires paired { IsPaired words.words }
-    requires differ { KeysDiffer words.words }
-{
-    HashedWords::check(alloc, FileKind::Kvi, words, accessor).err()
+/// How the accessor of the words is refused with another last bit at this place; not at all where there is none.
+fn accessor_refusal(alloc: Global, place: usize) -> Result<Option<FileError>, FileError> {
+    let built = hashed(alloc, &[])?;
+    let accessor = turned(alloc, built.accessor(), place)?;
+    Ok(hashed(alloc, accessor.as_slice()).err())
+}
+
+#[test]
+fn keys_are_found_by_the_accessor(rt: HostRuntime) -> Result<(), Fail> {
+    match hashed(rt.alloc(), &[]) {
+        Ok(words) => looks::<Brand>(&rt, &words, Blank::new(1)),
+        Err(_) => return Err(Fail::from("they may stand behind an accessor")),
+    }
+    Ok(())
 }
 
 #[test]
 fn an_accessor_is_accepted_whole(rt: HostRuntime) -> Result<(), Fail> {
-    let alloc = rt.alloc();
-    let words = file_of(alloc, &[&[1], &[7], &[2], &[]])?;
-    assert!(rt; is_paired(&words));
-    assert!(rt; keys_differ::<Brand>(&words, Blank::new(1)));
-    let built = HashedWords::of(alloc, words)?;
-    looks::<Brand>(&rt, &built, Blank::new(1));
-    let mut accessor = Vec::from_slice(alloc, built.accessor())?;
-    for same in [true, false] {
-        let words = file_of(alloc, &[&[1], &[7], &[2], &[]])?;
-        assert!(rt; is_paired(&words));
-        assert!(rt; keys_differ::<Brand>(&words, Blank::new(1)));
-        let bytes = Bytes::of(alloc, accessor.as_slice())?;
-        assert_eq!(rt; check_accessor(alloc, words, bytes).is_none(), same);
-        assert!(rt; accessor.len() > 5);
-        accessor[5] ^= 1;
-    }
+    assert!(rt; accessor_refusal(rt.alloc(), 1_000) == Ok(None));
+    let turned = FileError::Bad {
+        kind: FileKind::Kvi,
+        at: 5,
+    };
+    assert!(rt; accessor_refusal(rt.alloc(), 5) == Ok(Some(turned)));
     Ok(())
 }

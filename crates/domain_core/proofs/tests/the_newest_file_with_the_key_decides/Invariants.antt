@@ -1,4 +1,4 @@
 use Rattle.domain_core.proofs.tests.the_newest_file_with_the_key_decides.Given as goal
 
-abbrev pub ghosts-looks_back : goal.ghosts-looks_back
-ghosts-looks_back g a = record { name = a.blank.name; parts = a.blank.parts }
+abbrev pub ghosts-newest : goal.ghosts-newest
+ghosts-newest g a = record { name = a.blank.name; parts = a.blank.parts }
