@@ -1,5 +1,5 @@
 -- Which list a store of versioned rows and of sets of groups holds, what its views see, and what each call keeps.
-use Rattle.std.specs.Prelude.{◌≡◌, ℕ, ◌+◌, ◌*◌, ◌<◌, ◌≤◌, ◌^◌, nat_le, List, [], ◌∷◌, length, All, Option, IfSome, IfNone, IsSomeAnd, is_some, Result, IsErrOf}
+use Rattle.std.specs.Prelude.{◌≡◌, ℕ, ◌+◌, ◌*◌, ◌<◌, ◌≤◌, ◌^◌, nat_le, List, [], ◌∷◌, length, All, Option, None, IfSome, IfNone, IsSomeAnd, is_some, Result, IsErrOf}
 use Rattle.std.specs.Arc.{arc_value}
 use Rattle.std.specs.FinMap.{get}
 use Rattle.std.specs.Option.{ForSome, option_map}

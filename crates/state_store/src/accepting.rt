@@ -39,8 +39,7 @@ impl<D: Disk, K: Keeper> Store<D, K> {
         ensures commits { (list : ChangeList) → Holds D.Disk self.old list →
             IfOk result (λ answer. Commits D.Disk most list pending answer self.new) }
         ensures only { IfErr result (λ stop. stop ≡ Stop.Disk → ⊥) }
-        // The epoch is worn only at its limit, and nothing is added there.
-        ensures worn { IfErr result (λ stop. stop ≡ Stop.Worn → self.old.hot.epoch ≡ 2 ^ 62) }
+        // At the last epoch nothing is added.
         ensures rises { self.old.hot.epoch ≡ 2 ^ 62 → IfOk result (λ answer. answer ≡ None) }
         ensures err { OnErr result (self.new
             ≡ record self.old { hot = record self.old.hot { faults = self.new.hot.faults } }) }

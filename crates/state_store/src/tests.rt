@@ -41,7 +41,12 @@ fn put_in<D: Disk, K: Keeper>(
     let Ok(Some(accepted)) = store.accept(alloc, 1 << 28, batch) else {
         return Err(Fail::new("not accepted"));
     };
-    if accepted != (Accepted { changes: 1, next: 6 }) {
+    if accepted
+        != (Accepted {
+            changes: 1,
+            next: 6,
+        })
+    {
         return Err(Fail::new("something else is accepted"));
     }
     Ok((view, store))
