@@ -130,7 +130,9 @@ fn a_call_of_a_disk_that_fails_changes_nothing(rt: HostRuntime) -> Result<(), Fa
     let mut disk = MemDisk::new(alloc, &start, &[5, 2, 4, 3])?;
     assert!(rt; disk.write_new(alloc, b"a", b"1").is_ok());
     assert!(rt; disk.write_new(alloc, b"c", b"").is_err());
+    assert!(rt; disk.files().find(b"a").is_some());
     assert!(rt; disk.rename(alloc, b"a", b"b").is_err());
+    assert!(rt; disk.files().find(b"a").is_some());
     assert!(rt; disk.remove(alloc, b"a").is_err());
     assert!(rt; disk.list(alloc).is_err());
     assert_eq!(rt; disk.files().len(), 1);
