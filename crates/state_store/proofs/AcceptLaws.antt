@@ -5,7 +5,7 @@ use Rattle.std.specs.Option.{ForSome, option_map}
 use Rattle.std.proofs.lemmas.Bool.{leb-true, le-leb, lt-leb}
 use Rattle.std.proofs.lemmas.Nat.{mul-le}
 use Rattle.std.proofs.lemmas.Option.{slice_get_within}
-use Rattle.std.proofs.lemmas.List.Elements.{All-nil, All-cons, All-head, All-tail, All-append, All-map}
+use Rattle.std.proofs.lemmas.List.Elements.{All-nil, All-head, All-tail, All-append, All-map}
 use Rattle.std.proofs.lemmas.List.Sorted.{All-permutation}
 use Rattle.agg_outside.specs.declared.disk.Disk.{Ghosts as DiskGhosts}
 use Rattle.agg_outside.specs.declared.rows.Row.{Row}
@@ -36,7 +36,7 @@ use Rattle.collate_step.specs.Groups.{GroupFiles, AreGroupsBelow, group_of}
 use Rattle.row_epochs.specs.Seen.{seen, shown, view, SameUpTo}
 use Rattle.row_epochs.specs.Changes.{IsNew, change_of, changes_seen}
 use Rattle.row_epochs.specs.Versions.{Versions}
-use Rattle.agg_core.specs.Files.{HasFile, HasExactly}
+use Rattle.agg_core.specs.Files.{HasExactly}
 use Rattle.agg_core.proofs.Stays.{file_bytes-later}
 use Rattle.group_files.specs.NewFiles.{names_for}
 use Rattle.state_store.specs.declared.store.Store.{Store}

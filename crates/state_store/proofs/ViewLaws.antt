@@ -1,5 +1,5 @@
 -- What is opened sees the list, and opening and closing changes nothing else.
-use Rattle.std.proofs.Common.{◌≡◌, ℕ, ◌+◌, ◌*◌, ◌^◌, ◌<◌, ◌≤◌, Bool, true, cond, nat_le, List, [], ◌∷◌, All, Option, Some, None, IfSome, IsSomeAnd, refl, ap, subst, sym, ◌∙◌, arith}
+use Rattle.std.proofs.Common.{◌≡◌, ℕ, ◌+◌, ◌*◌, ◌^◌, ◌<◌, ◌≤◌, true, cond, nat_le, List, [], ◌∷◌, All, Option, Some, None, IfSome, IsSomeAnd, refl, ap, subst, sym, ◌∙◌, arith}
 use Rattle.std.specs.FinMap.{get}
 use Rattle.std.specs.Option.{ForSome, option_map}
 use Rattle.std.specs.List.{filter}
@@ -9,8 +9,8 @@ use Rattle.agg_outside.specs.Files.{Files}
 use Rattle.agg_outside.specs.Rows.{Held}
 use Rattle.agg_outside.specs.declared.rows.Row.{Row}
 use Rattle.agg_model.specs.Arranged.{arranged}
-use Rattle.agg_model.specs.ChangeList.{ChangeList, IsChangeList}
-use Rattle.agg_model.specs.Batch.{IsChange, HasNoRepeats}
+use Rattle.agg_model.specs.ChangeList.{ChangeList}
+use Rattle.agg_model.specs.Batch.{IsChange}
 use Rattle.agg_model.specs.declared.change.Change.{Change}
 use Rattle.agg_model.proofs.ContentsLaws.{filter-arranged}
 use Rattle.merge_ranges.specs.declared.name.FileName.{FileName}
@@ -27,7 +27,7 @@ use Rattle.agg_core.proofs.Kept.{outside-refl}
 use Rattle.group_files.specs.NewFiles.{names_for}
 use Rattle.state_store.specs.declared.store.Store.{Store}
 use Rattle.state_store.specs.declared.view.View.{View}
-use Rattle.state_store.specs.Store.{seen_from, told_from, IsStepBelow, AreBelow, SeesAll, IsStore, Holds, Sees, Goes, set_of, pins_of, ArePinned, HasNoFile, no_changes}
+use Rattle.state_store.specs.Store.{seen_from, told_from, IsStepBelow, AreBelow, IsStore, Holds, Sees, Goes, set_of, ArePinned, HasNoFile, no_changes}
 
 -- ---- what is opened sees the list
 

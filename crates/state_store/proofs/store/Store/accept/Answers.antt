@@ -4,7 +4,7 @@ use Rattle.agg_model.specs.Batch.{content_of, HasNoRepeats}
 use Rattle.agg_model.specs.ChangeList.{next_of, begins_from}
 use Rattle.agg_model.specs.Merged.{merged}
 use Rattle.agg_model.proofs.MergedLaws.{merged-HasNoRepeats}
-use Rattle.state_store.proofs.AcceptLaws.{can_add, next_batch, small_content, early_numbers, sound_after, commits_after, ingested, sees_after, sees_faults}
+use Rattle.state_store.proofs.AcceptLaws.{can_add, next_batch, small_content, early_numbers, sound_after, commits_after, ingested, sees_after}
 use Rattle.agg_core.proofs.Kept.{outside-refl}
 use Rattle.state_store.proofs.store.Store.accept.Goals as goal
 
