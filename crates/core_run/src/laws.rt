@@ -19,5 +19,6 @@ pub fn bytes_laws()
         IsSound start.machine → IsLegalHistory solo start history →
         (was : WasOpened start.machine (entries_of history) row) → IsTrue (is_name name) →
         has row.names (spelled name) ≡ true →
-        file_bytes (list_of (replay_of start history)) name ≡ file_bytes (list_of (replay start.machine was.front)) name }
+        file_bytes (list_of (replay_of start history)) name ≡
+        file_bytes (list_of (replay start.machine was.front)) name }
 {}

@@ -1,5 +1,6 @@
 //! Whether files may become visible.
-ghost use Rattle.std.specs.Prelude.{◌≡◌, ◌+◌, ◌-◌, ◌*◌, ◌≤◌, ◌<◌, ◌&&◌, nat_le, ℕ, [], ◌∷◌, List, IfOk, IfSome, IsTrue, Some, is_some};
+ghost use Rattle.std.specs.Prelude.{◌≡◌, ◌+◌, ◌-◌, ◌*◌, ◌≤◌, ◌<◌, ◌&&◌, nat_le, ℕ, [], ◌∷◌, List};
+ghost use Rattle.std.specs.Prelude.{IfOk, IfSome, IsTrue, Some, is_some};
 ghost use Rattle.std.specs.Bool.{Decides};
 ghost use Rattle.agg_model.specs.declared.entity.Entity.TheVariants.{Accounts};
 ghost use Rattle.merge_ranges.specs.declared.name.FileName.{FileName};

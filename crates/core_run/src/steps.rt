@@ -1,7 +1,8 @@
 //! One entry: whether it is possible, and what stands after it.
 ghost use Rattle.std.specs.Prelude.{◌≡◌, [], ◌∷◌, ℕ, All, IfOk};
 ghost use Rattle.std.specs.Bool.{Decides};
-ghost use Rattle.core_machine.specs.declared.entry.Entry.TheVariants.{Ingest, Open, Close, Publish, Stray, Sweep, Settled};
+ghost use Rattle.core_machine.specs.declared.entry.Entry.TheVariants.{Ingest, Open, Close, Publish};
+ghost use Rattle.core_machine.specs.declared.entry.Entry.TheVariants.{Stray, Sweep, Settled};
 ghost use Rattle.core_machine.specs.Entries.{IsUnseen, IsStrayName, IsSweep, IsSettled};
 ghost use Rattle.core_machine.specs.Sound.{IsSound};
 ghost use Rattle.core_run.specs.Running.{machine_of};
@@ -21,7 +22,8 @@ use std::alloc::Global;
 // The changes are accepted, if the batch may come and has no repeats.
 fn ingest(alloc: Global, running: &mut Running, batch: &Batch) -> Result<bool, Memory>
     requires { IsSound (machine_of running.old) }
-    ensures { (caller : ℕ) → IfOk result (Steps (machine_of running.old) (Ingest caller batch.now) (machine_of running.new)) }
+    ensures { (caller : ℕ) → IfOk result
+        (Steps (machine_of running.old) (Ingest caller batch.now) (machine_of running.new)) }
 {
     if batch.len() == 0 {
         return Ok(false);
@@ -85,7 +87,8 @@ fn publish(
     replaced: &Names,
 ) -> Result<bool, Memory>
     requires { IsSound (machine_of running.old) }
-    ensures { (caller : ℕ) → IfOk result (Steps (machine_of running.old) (Publish caller added.now replaced.now) (machine_of running.new)) }
+    ensures { (caller : ℕ) → IfOk result
+        (Steps (machine_of running.old) (Publish caller added.now replaced.now) (machine_of running.new)) }
 {
     let may = is_publish(
         alloc,
@@ -140,7 +143,8 @@ fn are_stray_names(running: &Running, names: &Names) -> bool
 
 // The names are present, if they may be.
 fn stray(alloc: Global, running: &mut Running, names: &Names) -> Result<bool, Memory>
-    ensures { (caller : ℕ) → IfOk result (Steps (machine_of running.old) (Stray caller names.now) (machine_of running.new)) }
+    ensures { (caller : ℕ) → IfOk result
+        (Steps (machine_of running.old) (Stray caller names.now) (machine_of running.new)) }
 {
     if !are_stray_names(running, names) {
         return Ok(false);
@@ -185,7 +189,8 @@ fn is_settled(alloc: Global, running: &Running, names: &Names) -> Result<bool, M
 
 fn settled(alloc: Global, running: &mut Running, names: &Names) -> Result<bool, Memory>
     requires { IsSound (machine_of running.old) }
-    ensures { (caller : ℕ) → IfOk result (Steps (machine_of running.old) (Settled caller names.now) (machine_of running.new)) }
+    ensures { (caller : ℕ) → IfOk result
+        (Steps (machine_of running.old) (Settled caller names.now) (machine_of running.new)) }
 {
     is_settled(alloc, running, names)
 }
