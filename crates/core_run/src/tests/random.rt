@@ -5,6 +5,9 @@ const HISTORIES: u64 = 50;
 
 const ENTRIES: u64 = 20;
 
+// How many refused entries of a history are run, each behind those that were taken before it.
+const REFUSED: u64 = 5;
+
 const SEED: u64 = 20;
 
 // An open row of the slow model.
@@ -434,7 +437,9 @@ fn run_random(alloc: Global, state: &mut u64) -> Result<(bool, u64), Memory> {
     let mut refused: u64 = 0;
     for _entry in 0..ENTRIES {
         if !try_entry(alloc, state, &mut slow, &mut entries)? {
-            same = same && is_last_refused(alloc, entries.as_slice());
+            if refused < REFUSED {
+                same = same && is_last_refused(alloc, entries.as_slice());
+            }
             let _last = entries.pop();
             refused = refused.saturating_add(1);
         }
