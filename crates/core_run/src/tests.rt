@@ -5,11 +5,13 @@ use super::*;
 use crate::names::{NameSet, add_entity, list_of, names_over};
 use agg_model::{Act, Batch, Change, Entity, Range};
 use agg_outside::{Bytes, ListOf, Memory, Names};
-use core_machine::{Entry, Machine};
+use core_machine::{Entry, Machine, Opening};
 use merge_ranges::Cut;
 use std::alloc::Global;
 use std::collections::BTreeSet;
 use std::test::Fail;
+
+mod random;
 
 // Nothing came, and nothing stands on the disk.
 fn empty(alloc: Global, size: u64) -> Machine
