@@ -78,11 +78,26 @@ pub(crate) fn scale(hash: u64, places: u64) -> u64
 }
 
 /// What a seed adds to each hash in a node of this depth.
-fn shift_of(depth: u64, seed: u32) -> u64
+pub(crate) fn shift_of(depth: u64, seed: u32) -> u64
     ensures { result ≡ golden * (2 ^ 20 * (depth + 1) + seed) % 2 ^ 64 }
 {
     let level = depth.wrapping_add(1).wrapping_mul(1 << 20);
     GOLDEN.wrapping_mul(level.wrapping_add(u64::from(seed)))
+}
+
+/// The position, below `places`, of a key of this hash, where the seed adds `shift`. Most leaves have 8 places, and
+/// there the product is a shift.
+#[tactic(auto, unfolding(crate::specs::Hash::scaled))]
+pub(crate) fn shifted_position(shift: u64, places: u64, hash: u64) -> u64
+    ensures value { result ≡ scaled (mix ((hash + shift) % 2 ^ 64)) places }
+    ensures below { 0 < places → result < places }
+{
+    let mixed = mix(hash.wrapping_add(shift));
+    if places == 8 {
+        mixed >> 61
+    } else {
+        scale(mixed, places)
+    }
 }
 
 /// The position, below `places`, of a key of this hash.

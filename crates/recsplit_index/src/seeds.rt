@@ -1,7 +1,7 @@
 ghost use Rattle.std.specs.Prelude.{◌≡◌, ◌+◌, ◌*◌, ◌<◌, ◌≤◌, ◌^◌, length, true, IfSome};
 ghost use Rattle.recsplit_index.specs.Nodes.{first_below, is_leaf_seed, is_split_seed, left_of, goes_left};
 
-use crate::hash::position;
+use crate::hash::{position, shift_of, shifted_position};
 use crate::keys::HashedKey;
 
 /// How many keys of a node go left at a split.
@@ -19,20 +19,22 @@ pub(crate) fn goes_left(depth: u64, seed: u32, size: u64, key: &HashedKey) -> bo
     position(depth, seed, size, key.hash) < left_of(size)
 }
 
-/// Whether the keys of a leaf have different positions under the seed.
+/// Whether the keys of a leaf have different positions under the seed. All keys are looked at, since a return at the
+/// first that stands at a taken position costs more than it saves.
 fn is_leaf_seed(keys: &[HashedKey], depth: u64, seed: u32) -> bool
     requires { length keys.now ≤ 8 }
     ensures { result ≡ is_leaf_seed depth keys.now seed }
 {
+    let places = keys.len() as u64;
+    let shift = shift_of(depth, seed);
     let mut taken = [false; 8];
+    let mut differ = true;
     for key in keys {
-        let place = position(depth, seed, keys.len() as u64, key.hash) as usize;
-        if taken[place] {
-            return false;
-        }
+        let place = shifted_position(shift, places, key.hash) as usize;
+        differ &= !taken[place];
         taken[place] = true;
     }
-    true
+    differ
 }
 
 /// Whether as many keys go left under the seed as are to.
