@@ -12,7 +12,7 @@ use std::alloc::Global;
 ///
 /// A contract can name the rows and the floor only if the keeper tells them. Each keeper either always tells them or
 /// never does: no call makes it begin or stop.
-pub trait Keeper: Send + Drop {
+pub trait Keeper: Drop {
     /// How often the keeper has failed.
     ghost faults: { Self → ℕ };
 

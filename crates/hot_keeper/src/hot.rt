@@ -5,7 +5,7 @@ ghost use Rattle.agg_outside.specs.Rows.{Held, applied};
 ghost use Rattle.agg_model.specs.Batch.{HasNoRepeats};
 ghost use Rattle.agg_model.specs.Arranged.{arranged_from};
 ghost use Rattle.agg_model.specs.Pairs.{hot_change};
-ghost use Rattle.row_epochs.specs.Errors.{IsWorn, IsUnworn};
+ghost use Rattle.row_epochs.specs.Errors.{IsWorn, IsUnworn, NamesLimit};
 ghost use Rattle.row_epochs.specs.Seen.{SameUpTo, SameFrom, dead, without_dead};
 ghost use Rattle.row_epochs.specs.Changes.{IsNew, changes_seen, writes_of};
 ghost use Rattle.row_epochs.specs.Versions.{AreVersions};
@@ -82,6 +82,7 @@ impl<K: Keeper> Hot<K> {
         ensures ok { OnOk result (self.new ≡ record self.old { epoch = self.old.epoch + 1 }) }
         ensures err { OnErr result (self.new ≡ self.old) }
         ensures worn { IsWorn result ↔ (self.old.epoch ≡ 2 ^ 62) }
+        ensures limit { NamesLimit result }
         ensures only { OnErr result (IsWorn result) }
     {
         self.rows.raise()
@@ -103,6 +104,7 @@ impl<K: Keeper> Hot<K> {
         ensures epoch { OnOk result (self.new.epoch ≡ self.old.epoch + 1) }
         ensures err { OnErr result (self.new ≡ record self.old { faults = self.new.faults }) }
         ensures worn { IsWorn result ↔ (self.old.epoch ≡ 2 ^ 62) }
+        ensures limit { NamesLimit result }
         ensures cause { HasCause RowsError.Keeper self.old.faults self.new.faults result }
     {
         let next = self.rows.epoch() + 1;

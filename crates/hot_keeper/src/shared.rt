@@ -6,6 +6,6 @@ use agg_outside::Keeper;
 fn is_sent<T: Send>(_value: &T) {}
 
 /// Hot rows may go to another thread.
-pub fn sends_hot<K: Keeper>(hot: Hot<K>) {
+pub fn sends_hot<K: Keeper + Send>(hot: Hot<K>) {
     is_sent(&hot);
 }

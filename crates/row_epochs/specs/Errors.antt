@@ -23,3 +23,10 @@ IsUnworn (Ok value) = Unit {0}
 IsUnworn (Err Keeper) = Unit {0}
 IsUnworn (Err (Worn epoch)) = ⊥
 IsUnworn (Err Memory) = Unit {0}
+
+-- an epoch is named only where it is the limit
+abbrev pub NamesLimit : {T : Type 0} → Result T RowsError → Type 0
+NamesLimit (Ok value) = Unit {0}
+NamesLimit (Err Keeper) = Unit {0}
+NamesLimit (Err (Worn epoch)) = epoch ≡ 2 ^ 62
+NamesLimit (Err Memory) = Unit {0}

@@ -5,7 +5,7 @@ ghost use Rattle.agg_outside.specs.Rows.{Held, first_from, last_before, rows_fro
 ghost use Rattle.agg_model.specs.Batch.{HasNoRepeats};
 ghost use Rattle.agg_model.specs.Arranged.{arranged_from};
 ghost use Rattle.agg_model.specs.Pairs.{hot_change};
-ghost use Rattle.row_epochs.specs.Errors.{IsWorn, IsUnworn};
+ghost use Rattle.row_epochs.specs.Errors.{IsWorn, IsUnworn, NamesLimit};
 ghost use Rattle.row_epochs.specs.Seen.{seen, view, SameUpTo, SameFrom, dead, without_dead};
 ghost use Rattle.row_epochs.specs.Changes.{IsNew, changes_seen, writes_of, kills_of};
 ghost use Rattle.row_epochs.specs.Starts.{MayBecome};
@@ -51,6 +51,7 @@ fn raised(epoch: u64) -> Result<u64, RowsError>
     ensures next { IfOk result (λ next. next ≡ epoch + 1) }
     ensures within { IfOk result (λ next. next ≤ 2 ^ 62) }
     ensures worn { IsWorn result ↔ (epoch ≡ 2 ^ 62) }
+    ensures limit { NamesLimit result }
     ensures only { OnErr result (IsWorn result) }
 {
     if epoch >= MOST_EPOCH {
@@ -93,6 +94,7 @@ impl<K: Keeper> Rows<K> {
         ensures ok { OnOk result (self.new ≡ record self.old { epoch = self.old.epoch + 1 }) }
         ensures err { OnErr result (self.new ≡ self.old) }
         ensures worn { IsWorn result ↔ (self.old.epoch ≡ 2 ^ 62) }
+        ensures limit { NamesLimit result }
         ensures only { OnErr result (IsWorn result) }
         ensures sound { IfSome self.new.told (AreVersions self.new.epoch) }
     {
@@ -116,6 +118,7 @@ impl<K: Keeper> Rows<K> {
         ensures epoch { OnOk result (self.new.epoch ≡ self.old.epoch + 1) }
         ensures err { OnErr result (self.new ≡ record self.old { faults = self.new.faults }) }
         ensures worn { IsWorn result ↔ (self.old.epoch ≡ 2 ^ 62) }
+        ensures limit { NamesLimit result }
         ensures cause { HasCause RowsError.Keeper self.old.faults self.new.faults result }
         ensures sound { IfSome self.new.told (AreVersions self.new.epoch) }
     {
@@ -138,6 +141,7 @@ impl<K: Keeper> Rows<K> {
         ensures epoch { OnOk result (self.new.epoch ≡ self.old.epoch + 1) }
         ensures err { OnErr result (self.new ≡ record self.old { faults = self.new.faults }) }
         ensures worn { IsWorn result ↔ (self.old.epoch ≡ 2 ^ 62) }
+        ensures limit { NamesLimit result }
         ensures cause { HasCause RowsError.Keeper self.old.faults self.new.faults result }
         ensures sound { IfSome self.new.told (AreVersions self.new.epoch) }
     {

@@ -6,6 +6,6 @@ use agg_outside::Keeper;
 fn is_sent<T: Send>(_value: &T) {}
 
 /// Rows may go to another thread.
-pub fn sends_rows<K: Keeper>(rows: Rows<K>) {
+pub fn sends_rows<K: Keeper + Send>(rows: Rows<K>) {
     is_sent(&rows);
 }

@@ -10,7 +10,7 @@ use Rattle.hot_keeper.proofs.AheadLaws.{ahead_ids, ahead_rest, read_for}
 use Rattle.hot_keeper.proofs.pieces.first_below.Goals as goal
 
 pub read_on-requires-clause-ahead : goal.read_on-requires-clause-ahead
-read_on-requires-clause-ahead g c = λ κs lives.
+read_on-requires-clause-ahead g c =
     let begun = c.in_ok-begun.begun in
     tell c.args.rows.now.told (λ (h : Held). IsAhead begun.ids.items begun.place (low_rows begun.tx h.rows)) (λ h told.
     let F : ℕ → Type 0 = λ n. IsAhead begun.ids.items begun.place (low_rows n h.rows) in

@@ -10,12 +10,14 @@ use Rattle.hot_keeper.proofs.PruneLaws.{pruned_alive, length_pruned, does_prune_
 use Rattle.hot_keeper.proofs.AheadLaws.{ahead_kept, ahead_left}
 use Rattle.hot_keeper.proofs.pruning.kill_first.Goals as goal
 
-pub kill-requires-clause-alive : goal.kill-requires-clause-alive
-kill-requires-clause-alive g c = λ κs lives h there.
-    let told = sym ((ap (λ (v : Versions). v.told) c.in_ok-present.ensures.same ∙ ap (λ (v : Versions). v.told) c.in_ok-low.ensures.same)) ∙ there in
-    let are = fall c.args.rows.now.told (AreVersions c.args.rows.now.epoch) c.requires.versions h told in
-    let F : List RowId → Type 0 = λ l. All (IsAlive h.rows) l in
-    subst F (sym (c.as_slice-dead.ensures.value ∙ fall c.args.rows.now.told (λ (x : Held). c.in_ok-low.low.ids.items ≡ pruned_ids c.args.tx c.args.limit x.rows) c.in_ok-low.ensures.ids h told)) (pruned_alive c.args.tx c.args.limit h.rows are.in_order)
+pub kill-requires : goal.kill-requires
+kill-requires g c = record {
+  alive = λ h there.
+      let told = sym ((ap (λ (v : Versions). v.told) c.in_ok-present.ensures.same ∙ ap (λ (v : Versions). v.told) c.in_ok-low.ensures.same)) ∙ there in
+      let are = fall c.args.rows.now.told (AreVersions c.args.rows.now.epoch) c.requires.versions h told in
+      let F : List RowId → Type 0 = λ l. All (IsAlive h.rows) l in
+      subst F (sym (c.as_slice-dead.ensures.value ∙ fall c.args.rows.now.told (λ (x : Held). c.in_ok-low.low.ids.items ≡ pruned_ids c.args.tx c.args.limit x.rows) c.in_ok-low.ensures.ids h told)) (pruned_alive c.args.tx c.args.limit h.rows are.in_order);
+}
 
 pub returns-then-not-does_prune-clause-ok : goal.returns-then-not-does_prune-clause-ok
 returns-then-not-does_prune-clause-ok g c =

@@ -9,7 +9,7 @@ use Rattle.hot_keeper.proofs.StepLaws.{noted_in_step}
 use Rattle.hot_keeper.proofs.steps.changes_within.Goals as goal
 
 pub changes_at-requires-clause-noted : goal.changes_at-requires-clause-noted
-changes_at-requires-clause-noted g c = λ κs lives.
+changes_at-requires-clause-noted g c =
     tell c.kept_or_made.new.rows.told (λ (h : Held). All (λ (r : Row). is_in_step c.kept_or_made.new.rows.epoch c.args.numbers.from c.args.numbers.to r ≡ true → Contains c.in_ok-ids.ids.items r.id) h.rows) (λ h there.
     let told = sym (ap (λ (v : Versions). v.told) c.in_ok-kept.ensures.same) ∙ there in
     let F : ℕ → Type 0 = λ e. All (λ (r : Row). is_in_step e c.args.numbers.from c.args.numbers.to r ≡ true → Contains c.in_ok-ids.ids.items r.id) h.rows in

@@ -7,7 +7,7 @@ use Rattle.row_epochs.proofs.rows.Rows.of.Goals as goal
 
 pub invariant_of-result : goal.invariant_of-result
 invariant_of-result g c =
-    let laws = g.met.K.Keeper g.world.𝓛 g.world.𝓜 g.world.𝓡 ((λ s x. x), (λ x. x), (λ x. x), λ x. x) in (
+    let laws = g.met.K.Keeper in (
       c.requires.epoch,
       tell (g.K.Keeper.held c.args.keeper) (AreVersions c.args.epoch) (λ h told.
           let rows = c.requires.rows h told in
