@@ -11,6 +11,15 @@ use Rattle.agg_model.specs.Pairs.{word_in, newest_word}
 use Rattle.agg_model.proofs.CoverageLaws.{newest_word-push}
 use Rattle.collate_step.specs.Groups.{GroupFiles, groups_for, pairs_of, pairs_for, word_of_group}
 
+own-by : (p : GroupFiles → Bool) (g : GroupFiles) (own : List GroupFiles) (t : Bool) → p g ≡ t → filter p own ≡ own → filter p (cond t (g ∷ own) own) ≡ cond t (g ∷ own) own
+own-by p g own true is same = rw is (ap (λ (gs : List GroupFiles). g ∷ gs) same)
+own-by p g own false is same = same
+
+-- the groups of the entity among those that were picked
+pub own-groups : (e : Entity) (groups : List GroupFiles) → groups_for e (groups_for e groups) ≡ groups_for e groups
+own-groups e [] = refl
+own-groups e (g ∷ groups) = own-by (λ g. entity_number g.entity == entity_number e) g (groups_for e groups) (entity_number g.entity == entity_number e) refl (own-groups e groups)
+
 module _ (e : Entity) (k : List ℕ) where
   abbrev is_mine : GroupFiles → Bool
   is_mine g = entity_number g.entity == entity_number e

@@ -1,15 +1,16 @@
 //! The values before a step, out of the groups below it.
-ghost use Rattle.std.specs.Prelude.{◌≡◌, ◌<◌, map};
+ghost use Rattle.std.specs.Prelude.{◌≡◌, ◌==◌, ◌<◌, map, IfOk};
 ghost use Rattle.std.specs.Arc.{arc_value};
 ghost use Rattle.std.specs.Option.{option_copied};
 ghost use Rattle.agg_model.specs.Entity.{entity_number};
 ghost use Rattle.agg_model.specs.Pairs.{newest_word, word_in};
-ghost use Rattle.collate_step.specs.Groups.{GroupFiles, pairs_for, word_of_group};
+ghost use Rattle.collate_step.specs.Groups.{GroupFiles, groups_for, pairs_for, word_of_group};
 
 use crate::befores::Earlier;
 use crate::entity_files::EntityFiles;
 use agg_model::Entity;
-use agg_outside::Steps;
+use agg_outside::{Memory, Steps};
+use std::alloc::Global;
 use std::marker::Brand;
 use std::sync::Arc;
 use std::sync::ledger::{Blank, Ledger};
@@ -21,6 +22,31 @@ pub(crate) struct EarlierValues<'a> {
     pub(crate) groups: &'a [Arc<EntityFiles>],
 }
 
+// Whether the group is one of the entity.
+fn is_of(entity: Entity, group: &EntityFiles) -> bool
+    ensures { result ≡ (entity_number group.now.entity == entity_number entity) }
+{
+    group.entity().number() == entity.number()
+}
+
+/// The groups of the entity, each once more, so that a look for one of its keys passes by no group of another.
+pub(crate) fn groups_of(
+    alloc: Global,
+    entity: Entity,
+    groups: &[Arc<EntityFiles>],
+) -> Result<Vec<Arc<EntityFiles>>, Memory>
+    ensures { IfOk result (λ own. map (λ g. arc_value g) own.items
+        ≡ groups_for entity (map (λ g. arc_value g) groups.now)) }
+{
+    let mut own = Vec::new(alloc);
+    for group in groups {
+        if is_of(entity, group) {
+            own.push(Arc::try_clone(group)?)?;
+        }
+    }
+    Ok(own)
+}
+
 // The stored value of a key in a group, if it is one of the entity.
 fn word_of_group<'a, L: Ledger>(
     entity: Entity,
@@ -30,7 +56,7 @@ fn word_of_group<'a, L: Ledger>(
 ) -> Option<&'a [u8]>
     ensures { option_copied result ≡ word_of_group entity group.now key.now }
 {
-    if group.entity().number() != entity.number() {
+    if !is_of(entity, group) {
         return None;
     }
     let kv = group.kv()?;

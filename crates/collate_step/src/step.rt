@@ -10,7 +10,7 @@ ghost use Rattle.inverted_index.specs.EfFile.{ef_tag, ef_file};
 ghost use Rattle.collate_step.specs.Groups.{AreGroupsBelow, IsDomain, group_of, kv_of, v_of, step_range, step_groups, step_changes};
 
 use crate::befores::step_befores;
-use crate::earlier::EarlierValues;
+use crate::earlier::{EarlierValues, groups_of};
 use crate::entity_files::EntityFiles;
 use crate::lists::step_lists;
 use crate::runs::split_run;
@@ -81,9 +81,10 @@ fn v_file(
         IsDomain place.entity → AreGroupsBelow list place.step (map (λ g. arc_value g) before.now) →
         IfOk result (λ f. f ≡ v_of list place.entity (step_range place.step)) }
 {
+    let own = groups_of(alloc, place.entity, before)?;
     let earlier = EarlierValues {
         entity: place.entity,
-        groups: before,
+        groups: own.as_slice(),
     };
     let befores = step_befores(alloc, &earlier, changes)?;
     let tag = v_tag(place.entity, place.size, range_of(place));
@@ -133,7 +134,8 @@ fn collate_entity(
 }
 
 /// The groups of a step: its changes, collated with the groups below it. What is of no list is answered as want
-/// of memory. Each key is looked up once among the groups below, from the newest to the first that has it.
+/// of memory. Each key is looked up once among the groups of its entity below, from the newest to the first that has
+/// it.
 pub fn collate<H: Threads + Wait + Clock + Sync>(
     _rt: &H,
     alloc: Global,

@@ -174,3 +174,74 @@ fn a_turned_bit_is_refused(rt: HostRuntime) -> Result<(), Fail> {
     assert_eq!(rt; refusal(alloc, 1, &EF, &efi)?, bad(FileKind::Efi, 55));
     Ok(())
 }
+
+/// Whether each front of the words is refused where it ends, or at the word that it cuts, or for the number of its words.
+fn fronts_are_refused(alloc: Global) -> Result<bool, Fail> {
+    for end in 0..66 {
+        let at = match end {
+            0..=39 => end,
+            40 | 45 => 32,
+            41..=44 => 40,
+            _ => 45,
+        };
+        if refusal(alloc, 1, &EF[..end], &EFI)? != bad(FileKind::Ef, at as u64) {
+            return Ok(false);
+        }
+    }
+    Ok(true)
+}
+
+/// Whether the accessor is refused where it ends too early, and where a bit is turned.
+fn accessors_are_refused(alloc: Global) -> Result<bool, Fail> {
+    for at in 0..56 {
+        let mut turned = EFI;
+        turned[at] ^= 1;
+        let cut = refusal(alloc, 1, &EF, &EFI[..at])?;
+        let other = refusal(alloc, 1, &EF, &turned)?;
+        if cut != bad(FileKind::Efi, at as u64) || other != bad(FileKind::Efi, at as u64) {
+            return Ok(false);
+        }
+    }
+    Ok(true)
+}
+
+#[test]
+fn files_cut_or_turned_anywhere_are_refused(rt: HostRuntime) -> Result<(), Fail> {
+    assert!(rt; fronts_are_refused(rt.alloc())?);
+    assert!(rt; accessors_are_refused(rt.alloc())?);
+    Ok(())
+}
+
+/// So many keys of two bytes, 00 01, 00 03 and so on, each with one number.
+fn odd_lists(alloc: Global, count: u16) -> Result<Lists, Fail> {
+    let mut lists = Lists::new(alloc);
+    for i in 0..count {
+        let key = (i % 0x8000 * 2 + 1).to_be_bytes();
+        put(alloc, &mut lists, &key, &[u64::from(i)])?;
+    }
+    Ok(lists)
+}
+
+fn finds_each<L: Ledger>(rt: &impl Abort, file: &EfFile, count: u16, blank: Blank)
+    requires name { blank.name ≡ L.name }
+    requires parts { blank.parts ≡ L.parts }
+    requires some { 0 < L.parts }
+{
+    let mut steps = Steps::<L>::of(blank);
+    for i in 0..count {
+        let key = (i % 0x8000 * 2 + 1).to_be_bytes();
+        let below = (i % 0x8000 * 2).to_be_bytes();
+        assert!(rt; file.first_from(&key, 0, &mut steps) == Some(u64::from(i)));
+        assert!(rt; file.first_from(&below, 0, &mut steps).is_none());
+    }
+}
+
+#[test]
+fn each_key_is_found(rt: HostRuntime) -> Result<(), Fail> {
+    for count in [0, 1, 2, 17, 300] {
+        let lists = odd_lists(rt.alloc(), count)?;
+        let file = built(rt.alloc(), tag_of(Entity::Code, 300), &lists)?;
+        finds_each::<Brand>(&rt, &file, count, Blank::new(1));
+    }
+    Ok(())
+}
