@@ -6,7 +6,6 @@ use Rattle.std.specs.Prelude.{codes}
 use Rattle.std.specs.FinMap.{get, insert, remove}
 use Rattle.agg_outside.specs.Files.{Files, SameElsewhere}
 use Rattle.agg_model.specs.declared.entity.Entity.{Entity}
-use Rattle.agg_model.specs.declared.entity.Entity.TheVariants.{Accounts}
 use Rattle.agg_model.specs.declared.entity.FileKind.{FileKind}
 use Rattle.agg_model.specs.declared.change.Change.{Change}
 use Rattle.agg_model.specs.ChangeList.{ChangeList, grown}
@@ -19,7 +18,7 @@ use Rattle.agg_core.specs.Bytes.{file_bytes}
 use Rattle.agg_core.specs.Files.{temporary_of, LeftBy, MayStand, AreOutsideSame, HasFile, HasExactly, KeepsNamed, IsCovered, Covers, SameOutside}
 use Rattle.agg_core.proofs.OneName.{decided, inserted, beside_insert, removed, beside_remove}
 use Rattle.agg_core.proofs.Stays.{file_bytes-stays}
-use Rattle.agg_core.proofs.Written.{IsDue, only_built, the-name, from_written}
+use Rattle.agg_core.proofs.Written.{IsDue, step-named, from_written}
 
 -- ---- names that are apart
 
@@ -59,15 +58,13 @@ keeps list names now due has = record {
 
 -- the first steps are covered by their files
 pub covers : (list : ChangeList) (steps : ℕ) (now : Files) → steps ≤ 4096 → All (HasFile list now) (written_over (single_steps steps)) → Covers steps now
-covers list steps now small stand e k step built below =
-    let is = only_built e k built in
-    subst (λ (f : Entity). IsCovered now f k step) (sym is.0) (subst (λ (f : FileKind). IsCovered now Accounts f step) (sym is.1) (record {
-      range = single_step step;
-      from = omega arith;
-      to = omega arith;
-      name = the-name step (omega (arith, below, small));
-      there = ap is_some (from_written (HasFile list now) steps step below stand);
-    }))
+covers list steps now small stand e k step built below = record {
+  range = single_step step;
+  from = omega arith;
+  to = omega arith;
+  name = step-named e k step built (omega (arith, below, small));
+  there = ap is_some (from_written (HasFile list now) steps e k step built below stand);
+}
 
 -- ---- one more file
 

@@ -1,11 +1,10 @@
 -- Laws of the names of the files over the first steps.
-use Rattle.std.proofs.Common.{◌≡◌, inl, inr, ℕ, zero, suc, ◌+◌, ◌-◌, ◌*◌, ◌/◌, ◌%◌, ◌<◌, ◌≤◌, Bool, true, false, cond, ◌==◌, ◌&&◌, nat_le, nat_eq, List, [], ◌∷◌, ◌++◌, filter, All, Contains, refl, ap, subst, sym, ◌∙◌, arith, append_assoc}
-use Rattle.std.proofs.Common.{append-nil}
+use Rattle.std.proofs.Common.{◌≡◌, ℕ, zero, suc, ◌+◌, ◌-◌, ◌*◌, ◌/◌, ◌%◌, ◌<◌, ◌≤◌, Bool, true, false, cond, ◌==◌, ◌&&◌, ◌||◌, nat_le, nat_eq, List, [], ◌∷◌, ◌++◌, filter, All, Contains, refl, ap, subst, sym, ◌∙◌, arith}
 use Rattle.std.specs.Prelude.{map}
 use Rattle.std.proofs.Math.Nat.{mod-one}
 use Rattle.std.proofs.Common.{eqb-true, eq-eqb}
 use Rattle.std.proofs.lemmas.Bool.{le-leb, eqb-false}
-use Rattle.std.proofs.lemmas.List.Elements.{filter-append, Contains-push, Contains-push_cases, Contains-append_left, All-nil, All-push, All-contains}
+use Rattle.std.proofs.lemmas.List.Elements.{All-nil, All-cons, All-head, All-tail, All-append, All-push, All-weaker, All-contains, Contains-get_or, Contains-push, Contains-append_left, Contains-append_right}
 use Rattle.std.proofs.lemmas.Nat.{div-add-mod', div_below, mul-le}
 use Rattle.agg_model.specs.declared.entity.Entity.{Entity}
 use Rattle.agg_model.specs.declared.entity.Entity.TheVariants.{Accounts, Storage, Code, LogAddrs, LogTopics, TracesFrom, TracesTo}
@@ -16,67 +15,133 @@ use Rattle.agg_model.specs.Entity.{is_domain_entity}
 use Rattle.agg_model.specs.ChangeList.{ChangeList, IsChangeList}
 use Rattle.merge_ranges.specs.declared.name.FileName.{FileName}
 use Rattle.merge_ranges.specs.Cut.{is_size, is_aligned}
+use Rattle.merge_ranges.specs.Kind.{is_index_kind}
 use Rattle.merge_ranges.specs.Name.{has_kind, is_name}
-use Rattle.merge_ranges.specs.CanonicalNames.{kinds, group_names, entity_names}
-use Rattle.agg_core.specs.Names.{complete_steps, has_files, is_written, is_built, single_step, single_steps, step_name, written_over}
+use Rattle.merge_ranges.specs.CanonicalNames.{kinds, entities, group_names, entity_names, names_of}
+use Rattle.agg_core.specs.Names.{complete_steps, single_step, single_steps, written_over}
 use Rattle.agg_core.specs.Files.{MayStand}
 
--- the name of the one file of a step
-abbrev pub the_name : ℕ → FileName
-the_name n = step_name Accounts n
+-- ---- the first steps
 
-abbrev built : FileName → Bool
-built n = is_built n.entity n.kind
+All-steps : (P : Range → Type 0) (n : ℕ) → ((step : ℕ) → step < n → P (single_step step)) → All P (single_steps n)
+All-steps P zero each = All-nil P
+All-steps P (suc n) each =
+    All-push P (single_steps n) (single_step n) (All-steps P n (λ step below. each step (omega (arith, below)))) (each n (omega arith))
 
--- over one more range
-entity_names-push : (e : Entity) (rs : List Range) (r : Range) → entity_names e (rs ++ r ∷ []) ≡ entity_names e rs ++ group_names e r
-entity_names-push e [] r = append-nil (group_names e r)
-entity_names-push e (q ∷ rs) r = ap (λ l. group_names e q ++ l) (entity_names-push e rs r) ∙ sym (append_assoc (group_names e q) (entity_names e rs) (group_names e r))
+has-by : (n step : ℕ) (t : Bool) → nat_eq step n ≡ t → (step < n → Contains (single_steps n) (single_step step)) → step < suc n → Contains (single_steps (suc n)) (single_step step)
+has-by n step true e before below =
+    subst (λ m. Contains (single_steps (suc n)) (single_step m)) (sym (eqb-true step n e)) (Contains-push (single_steps n) (single_step n))
+has-by n step false e before below =
+    Contains-append_left (single_steps n) (single_step n ∷ []) (single_step step) (before (omega (arith, below, eqb-false step n e)))
 
--- no file of an entity that has none
-none_named : (e : Entity) (r : Range) (ks : List FileKind) → has_files e ≡ false → filter built (map (λ k. let n : FileName = record { entity = e; range = r; kind = k } in n) ks) ≡ []
-unfolding is_built
-none_named e r [] h = refl
-none_named e r (k ∷ ks) h = ap (λ t. cond (t && is_written k) (record { entity = e; range = r; kind = k } ∷ filter built (map (λ k. let n : FileName = record { entity = e; range = r; kind = k } in n) ks)) (filter built (map (λ k. let n : FileName = record { entity = e; range = r; kind = k } in n) ks))) h ∙ none_named e r ks h
+steps_has : (n step : ℕ) → step < n → Contains (single_steps n) (single_step step)
+steps_has zero step below = absurd (omega (arith, below))
+steps_has (suc n) step below = has-by n step (nat_eq step n) refl (steps_has n step) below
 
-none_written : (e : Entity) (rs : List Range) → has_files e ≡ false → filter built (entity_names e rs) ≡ []
-none_written e [] h = refl
-none_written e (r ∷ rs) h =
-    filter-append built (group_names e r) (entity_names e rs)
-    ∙ ap (λ l. l ++ filter built (entity_names e rs)) (none_named e r (filter (has_kind e) kinds) h)
-    ∙ none_written e rs h
+-- ---- what holds of each name over some ranges, and the other way round
 
-one_written : (r : Range) → filter built (group_names Accounts r) ≡ record { entity = Accounts; range = r; kind = Kv } ∷ []
-unfolding is_built has_files is_written has_kind is_domain_entity
-one_written r = refl
+abbrev pub named : Entity → FileKind → Range → FileName
+named e k r = record { entity = e; range = r; kind = k }
 
--- all files are those of accounts
-only_accounts : (rs : List Range) → written_over rs ≡ filter built (entity_names Accounts rs)
-unfolding written_over has_files
-only_accounts rs =
-    filter-append built (entity_names Accounts rs) _
-    ∙ ap (λ l. filter built (entity_names Accounts rs) ++ l) (
-    filter-append built (entity_names Storage rs) _ ∙ (λ i. none_written Storage rs refl i ++ (
-    filter-append built (entity_names Code rs) _ ∙ (λ i. none_written Code rs refl i ++ (
-    filter-append built (entity_names LogAddrs rs) _ ∙ (λ i. none_written LogAddrs rs refl i ++ (
-    filter-append built (entity_names LogTopics rs) _ ∙ (λ i. none_written LogTopics rs refl i ++ (
-    filter-append built (entity_names TracesFrom rs) _ ∙ (λ i. none_written TracesFrom rs refl i ++ (
-    filter-append built (entity_names TracesTo rs) [] ∙ (λ i. none_written TracesTo rs refl i ++ [])) i)) i)) i)) i)) i))
-    ∙ append-nil (filter built (entity_names Accounts rs))
+module _ (P : FileName → Type 0) where
+  group_all-by : (e : Entity) (r : Range) (k : FileKind) (ks : List FileKind) (t : Bool) → has_kind e k ≡ t → ((l : FileKind) → has_kind e l ≡ true → P (named e l r)) → All P (map (λ l. named e l r) (filter (has_kind e) ks)) → All P (map (λ l. named e l r) (cond t (k ∷ filter (has_kind e) ks) (filter (has_kind e) ks)))
+  group_all-by e r k ks true is each rest = All-cons P (named e k r) (map (λ l. named e l r) (filter (has_kind e) ks)) (each k is) rest
+  group_all-by e r k ks false is each rest = rest
 
--- one step more has one file more
-pub the-more : (n : ℕ) → written_over (single_steps (suc n)) ≡ written_over (single_steps n) ++ the_name n ∷ []
-the-more n =
-    only_accounts (single_steps n ++ single_step n ∷ [])
-    ∙ ap (filter built) (entity_names-push Accounts (single_steps n) (single_step n))
-    ∙ filter-append built (entity_names Accounts (single_steps n)) (group_names Accounts (single_step n))
-    ∙ (λ i. sym (only_accounts (single_steps n)) i ++ one_written (single_step n) i)
+  group_all : (e : Entity) (r : Range) (ks : List FileKind) → ((l : FileKind) → has_kind e l ≡ true → P (named e l r)) → All P (map (λ l. named e l r) (filter (has_kind e) ks))
+  group_all e r [] each = All-nil P
+  group_all e r (k ∷ ks) each = group_all-by e r k ks (has_kind e k) refl each (group_all e r ks each)
 
-pub the-next : (n : ℕ) → written_over (single_steps (n + 1)) ≡ written_over (single_steps n) ++ the_name n ∷ []
-the-next n = let more : suc n ≡ n + 1 = omega arith in subst (λ m. written_over (single_steps m) ≡ written_over (single_steps n) ++ the_name n ∷ []) more (the-more n)
+  over_all : (e : Entity) (rs : List Range) → All (λ r. (k : FileKind) → has_kind e k ≡ true → P (named e k r)) rs → All P (entity_names e rs)
+  over_all e [] each = All-nil P
+  over_all e (r ∷ rs) each =
+      All-append P (group_names e r) (entity_names e rs) (group_all e r kinds (All-head (λ q. (k : FileKind) → has_kind e k ≡ true → P (named e k q)) r rs each)) (over_all e rs (All-tail (λ q. (k : FileKind) → has_kind e k ≡ true → P (named e k q)) r rs each))
+
+  all_of : (es : List Entity) (rs : List Range) → ((e : Entity) → All (λ r. (k : FileKind) → has_kind e k ≡ true → P (named e k r)) rs) → All P (names_of es rs)
+  all_of [] rs each = All-nil P
+  all_of (e ∷ es) rs each = All-append P (entity_names e rs) (names_of es rs) (over_all e rs (each e)) (all_of es rs each)
+
+  pub All-written : (n : ℕ) → ((e : Entity) (k : FileKind) (step : ℕ) → has_kind e k ≡ true → step < n → P (named e k (single_step step))) → All P (written_over (single_steps n))
+  All-written n each =
+      all_of entities (single_steps n) (λ e. All-steps (λ r. (k : FileKind) → has_kind e k ≡ true → P (named e k r)) n (λ step below k has. each e k step has below))
+
+abbrev seven : Entity → Range → List FileName
+seven e r = map (λ k. named e k r) kinds
+
+abbrev two : Entity → Range → List FileName
+two e r = named e Ef r ∷ named e Efi r ∷ []
+
+seven_has : (e : Entity) (k : FileKind) (r : Range) → Contains (seven e r) (named e k r)
+seven_has e Kv r = Contains-get_or (seven e r) 0 (named e Kv r) (omega arith)
+seven_has e Bt r = Contains-get_or (seven e r) 1 (named e Bt r) (omega arith)
+seven_has e Kvi r = Contains-get_or (seven e r) 2 (named e Kvi r) (omega arith)
+seven_has e V r = Contains-get_or (seven e r) 3 (named e V r) (omega arith)
+seven_has e Vi r = Contains-get_or (seven e r) 4 (named e Vi r) (omega arith)
+seven_has e Ef r = Contains-get_or (seven e r) 5 (named e Ef r) (omega arith)
+seven_has e Efi r = Contains-get_or (seven e r) 6 (named e Efi r) (omega arith)
+
+two_has : (e : Entity) (k : FileKind) (r : Range) → is_index_kind k ≡ true → Contains (two e r) (named e k r)
+unfolding is_index_kind
+two_has e Kv r has = cc has
+two_has e Bt r has = cc has
+two_has e Kvi r has = cc has
+two_has e V r has = cc has
+two_has e Vi r has = cc has
+two_has e Ef r has = Contains-get_or (two e r) 0 (named e Ef r) (omega arith)
+two_has e Efi r has = Contains-get_or (two e r) 1 (named e Efi r) (omega arith)
+
+group_has-by : (e : Entity) (k : FileKind) (r : Range) (t : Bool) → (t || is_index_kind k) ≡ true → Contains (map (λ l. named e l r) (filter (λ l. t || is_index_kind l) kinds)) (named e k r)
+unfolding is_index_kind
+group_has-by e k r true has = seven_has e k r
+group_has-by e k r false has = two_has e k r has
+
+group_has : (e : Entity) (k : FileKind) (r : Range) → has_kind e k ≡ true → Contains (group_names e r) (named e k r)
+unfolding has_kind
+group_has e k r has = group_has-by e k r (is_domain_entity e) has
+
+module _ (e : Entity) (k : FileKind) (has : has_kind e k ≡ true) where
+  entity_has : (rs : List Range) → All (λ r. Contains (entity_names e rs) (named e k r)) rs
+  entity_has [] = All-nil (λ r. Contains (entity_names e []) (named e k r))
+  entity_has (r ∷ rs) =
+      All-cons (λ q. Contains (entity_names e (r ∷ rs)) (named e k q)) r rs
+      (Contains-append_left (group_names e r) (entity_names e rs) (named e k r) (group_has e k r has))
+      (All-weaker (λ q. Contains (entity_names e rs) (named e k q)) (λ q. Contains (entity_names e (r ∷ rs)) (named e k q))
+      (λ q. Contains-append_right (group_names e r) (entity_names e rs) (named e k q)) rs (entity_has rs))
+
+module _ (name : FileName) (rs : List Range) where
+  abbrev Within : List Entity → Entity → Type 0
+  Within es e = Contains (entity_names e rs) name → Contains (names_of es rs) name
+
+  entities_has : (es : List Entity) → All (Within es) es
+  entities_has [] = All-nil (Within [])
+  entities_has (e ∷ es) =
+      All-cons (Within (e ∷ es)) e es
+      (Contains-append_left (entity_names e rs) (names_of es rs) name)
+      (All-weaker (Within es) (Within (e ∷ es))
+      (λ f within there. Contains-append_right (entity_names e rs) (names_of es rs) name (within there)) es (entities_has es))
+
+entity_there : (e : Entity) → Contains entities e
+entity_there Accounts = Contains-get_or entities 0 Accounts (omega arith)
+entity_there Storage = Contains-get_or entities 1 Storage (omega arith)
+entity_there Code = Contains-get_or entities 2 Code (omega arith)
+entity_there LogAddrs = Contains-get_or entities 3 LogAddrs (omega arith)
+entity_there LogTopics = Contains-get_or entities 4 LogTopics (omega arith)
+entity_there TracesFrom = Contains-get_or entities 5 TracesFrom (omega arith)
+entity_there TracesTo = Contains-get_or entities 6 TracesTo (omega arith)
+
+pub written-has : (n : ℕ) (e : Entity) (k : FileKind) (step : ℕ) → has_kind e k ≡ true → step < n → Contains (written_over (single_steps n)) (named e k (single_step step))
+written-has n e k step has below =
+    let name = named e k (single_step step) in
+    let rs = single_steps n in
+    All-contains (Within name rs entities) entities e (entities_has name rs entities) (entity_there e)
+    (All-contains (λ r. Contains (entity_names e rs) (named e k r)) rs (single_step step) (entity_has e k has rs) (steps_has n step below))
+
+pub from_written : (P : FileName → Type 0) (n : ℕ) (e : Entity) (k : FileKind) (step : ℕ) → has_kind e k ≡ true → step < n → All P (written_over (single_steps n)) → P (named e k (single_step step))
+from_written P n e k step has below all =
+    All-contains P (written_over (single_steps n)) (named e k (single_step step)) all (written-has n e k step has below)
 
 pub written-none : written_over [] ≡ []
-written-none = only_accounts []
+written-none = refl
 
 -- ---- each is a name of the grammar
 
@@ -89,71 +154,24 @@ is_aligned-step k small =
     let P = λ (s : ℕ). (is_size s && (k % s == 0) && nat_le (k + 1) 4096) ≡ true in
     subst P (sym (one_step k)) (λ i. true && (eq-eqb (k % 1) 0 (mod-one k) i) && (le-leb (k + 1) 4096 (omega (arith, small)) i))
 
+pub step-named : (e : Entity) (k : FileKind) (step : ℕ) → has_kind e k ≡ true → step < 4096 → is_name (named e k (single_step step)) ≡ true
+unfolding is_name
+step-named e k step has small = (λ i. is_aligned-step step small i && has i)
+
+-- the first file of a step
+abbrev pub the_name : ℕ → FileName
+the_name n = named Accounts Kv (single_step n)
+
 pub the-name : (k : ℕ) → k < 4096 → is_name (the_name k) ≡ true
-unfolding is_name has_kind is_domain_entity
-the-name k small = ap (λ t. t && true) (is_aligned-step k small)
+unfolding has_kind is_domain_entity
+the-name k small = step-named Accounts Kv k refl small
 
-pub the-built : (k : ℕ) → built (the_name k) ≡ true
-unfolding is_built has_files is_written
-the-built k = refl
+-- ---- each is of complete steps
 
--- accounts' values are all that is built
-pub only_built : (e : Entity) (k : FileKind) → is_built e k ≡ true → (e ≡ Accounts) × (k ≡ Kv)
-unfolding is_built has_files is_written
-only_built Accounts Kv h = (refl, refl)
-only_built Accounts Bt h = cc h
-only_built Accounts Kvi h = cc h
-only_built Accounts V h = cc h
-only_built Accounts Vi h = cc h
-only_built Accounts Ef h = cc h
-only_built Accounts Efi h = cc h
-only_built Storage k h = cc h
-only_built Code k h = cc h
-only_built LogAddrs k h = cc h
-only_built LogTopics k h = cc h
-only_built TracesFrom k h = cc h
-only_built TracesTo k h = cc h
-
--- ---- the files over the first steps are those of each of them
-
-none : (name : FileName) → Contains [] name → ⊥
-none name h = let inside : h.0 < 0 = h.1 in absurd (omega (arith, inside))
-
-pub the-is : (n : ℕ) (name : FileName) → Contains (written_over (single_steps n)) name → (k : ℕ) × (k < n) × (name ≡ the_name k)
-the-is zero name h = absurd (none name (subst (λ l. Contains l name) written-none h))
-the-is (suc n) name h =
-    elim (Contains-push_cases (written_over (single_steps n)) (the_name n) name (subst (λ l. Contains l name) (the-more n) h)) [
-      | inl before ↦ (let r = the-is n name before in (r.0, omega (arith, r.1), r.2))
-      | inr last ↦ (n, omega arith, sym last)
-    ]
-
-pub All-written : (P : FileName → Type 0) (n : ℕ) → ((k : ℕ) → k < n → P (the_name k)) → All P (written_over (single_steps n))
-All-written P zero h = subst (All P) (sym written-none) (All-nil P)
-All-written P (suc n) h =
-    subst (All P) (sym (the-more n))
-    (All-push P (written_over (single_steps n)) (the_name n) (All-written P n (λ k below. h k (omega (arith, below)))) (h n (omega arith)))
-
-has-by : (n k : ℕ) (t : Bool) → nat_eq k n ≡ t → (k < n → Contains (written_over (single_steps n)) (the_name k)) → k < suc n → Contains (written_over (single_steps n) ++ the_name n ∷ []) (the_name k)
-has-by n k true e before below =
-    subst (λ m. Contains (written_over (single_steps n) ++ the_name n ∷ []) (the_name m)) (sym (eqb-true k n e)) (Contains-push (written_over (single_steps n)) (the_name n))
-has-by n k false e before below =
-    Contains-append_left (written_over (single_steps n)) (the_name n ∷ []) (the_name k) (before (omega (arith, below, eqb-false k n e)))
-
-pub written-has : (n k : ℕ) → k < n → Contains (written_over (single_steps n)) (the_name k)
-written-has zero k below = absurd (omega (arith, below))
-written-has (suc n) k below = subst (λ l. Contains l (the_name k)) (sym (the-more n)) (has-by n k (nat_eq k n) refl (written-has n k) below)
-
-pub from_written : (P : FileName → Type 0) (n k : ℕ) → k < n → All P (written_over (single_steps n)) → P (the_name k)
-from_written P n k below all = All-contains P (written_over (single_steps n)) (the_name k) all (written-has n k below)
-
--- each is a name of the grammar, of a kind that is built and of complete steps
 complete : (next size steps k : ℕ) → steps * size ≤ next → k < steps → (k + 1) * size ≤ next
 complete next size steps k all below =
     let within : (k + 1) * size ≤ steps * size = mul-le (k + 1) size steps size (omega (arith, below)) (omega arith) in
     omega (arith, within, all)
-
-pub the-may : (list : ChangeList) (k steps : ℕ) → steps * list.size ≤ list.next → k < steps → MayStand list (the_name k)
-the-may list k steps all below = record { built = the-built k; complete = complete list.next list.size steps k all below }
 
 -- the name is one of the grammar and may stand
 abbrev pub IsDue : ChangeList → FileName → Type 0
@@ -161,7 +179,8 @@ IsDue list name = (is_name name ≡ true) × MayStand list name
 
 pub are_due : (list : ChangeList) (steps : ℕ) → steps ≤ 4096 → steps * list.size ≤ list.next → All (IsDue list) (written_over (single_steps steps))
 are_due list steps small all =
-    All-written (IsDue list) steps (λ k below. (the-name k (omega (arith, below, small)), the-may list k steps all below))
+    All-written (IsDue list) steps (λ e k step has below.
+    (step-named e k step has (omega (arith, below, small)), record { built = has; complete = complete list.next list.size steps step all below }))
 
 -- complete steps are few, and within the list
 pub complete-within : (list : ChangeList) → complete_steps list * list.size ≤ list.next
@@ -171,38 +190,3 @@ pub complete-small : (list : ChangeList) → IsChangeList list → complete_step
 complete-small list valid =
     let below : list.next / list.size < 4097 = div_below list.next list.size 4097 (omega (arith, valid.size_from_one)) (omega (arith, valid.next_within, valid.size_from_one)) in
     omega (arith, below)
-
--- ---- the same by the entity that has files
-
-only_filed : (e : Entity) → has_files e ≡ true → e ≡ Accounts
-unfolding has_files
-only_filed Accounts h = refl
-only_filed Storage h = cc h
-only_filed Code h = cc h
-only_filed LogAddrs h = cc h
-only_filed LogTopics h = cc h
-only_filed TracesFrom h = cc h
-only_filed TracesTo h = cc h
-
--- one entity alone has files
-pub same_filed : (e f : Entity) → has_files e ≡ true → has_files f ≡ true → e ≡ f
-same_filed e f one two = only_filed e one ∙ sym (only_filed f two)
-
-module _ (e : Entity) (filed : has_files e ≡ true) where
-  by_accounts : (P : Entity → Type 0) → P Accounts → P e
-  by_accounts P p = subst P (sym (only_filed e filed)) p
-
-  pub written-more : (n : ℕ) → written_over (single_steps (suc n)) ≡ written_over (single_steps n) ++ step_name e n ∷ []
-  written-more n = by_accounts (λ f. written_over (single_steps (suc n)) ≡ written_over (single_steps n) ++ step_name f n ∷ []) (the-more n)
-
-  pub written-next : (n : ℕ) → written_over (single_steps (n + 1)) ≡ written_over (single_steps n) ++ step_name e n ∷ []
-  written-next n = by_accounts (λ f. written_over (single_steps (n + 1)) ≡ written_over (single_steps n) ++ step_name f n ∷ []) (the-next n)
-
-  pub is_name-step : (n : ℕ) → n < 4096 → is_name (step_name e n) ≡ true
-  is_name-step n small = by_accounts (λ f. is_name (step_name f n) ≡ true) (the-name n small)
-
-  pub may_stand : (list : ChangeList) (n steps : ℕ) → steps * list.size ≤ list.next → n < steps → MayStand list (step_name e n)
-  may_stand list n steps all below = by_accounts (λ f. MayStand list (step_name f n)) (the-may list n steps all below)
-
-  pub written-is : (n : ℕ) (name : FileName) → Contains (written_over (single_steps n)) name → (k : ℕ) × (k < n) × (name ≡ step_name e k)
-  written-is n name h = by_accounts (λ f. (k : ℕ) × (k < n) × (name ≡ step_name f k)) (the-is n name h)

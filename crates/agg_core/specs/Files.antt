@@ -21,7 +21,7 @@ temporary_of name = spelled_on_disk (record { name = name; temp = true })
 abbrev pub LeftBy : List ℕ → List ℕ → List ℕ → Files → Files → Type 0
 LeftBy temporary name bytes old new = SameElsewhere temporary old new ⊎ (new ≡ insert (remove old temporary) name bytes)
 
--- a file of this name may stand beside the list: its kind is built, and its steps are complete
+-- a file of this name may stand beside the list: its entity has this kind, and its steps are complete
 pub record MayStand (list : ChangeList) (name : FileName) : Type 0 where
   pub built : IsTrue (is_built name.entity name.kind)
   pub complete : name.range.to * list.size ≤ list.next
@@ -78,7 +78,7 @@ pub record IsCovered (now : Files) (e : Entity) (k : FileKind) (step : ℕ) : Ty
   pub name : IsTrue (is_name (record { entity = e; range = range; kind = k }))
   pub there : is_some (get now (spelled (record { entity = e; range = range; kind = k }))) ≡ true
 
--- each of the first steps is covered by files that are there, of every kind that is built
+-- each of the first steps is covered by files that are there, of every kind that its entity has
 abbrev pub Covers : ℕ → Files → Type 0
 Covers steps now =
     (e : Entity) (k : FileKind) (step : ℕ) → IsTrue (is_built e k) → step < steps → IsCovered now e k step

@@ -11,7 +11,7 @@ ghost use Rattle.agg_core.specs.Files.{MayStand, HasWritten, KeepsNamed, Covers}
 
 /// What holds of the names of the files of a list.
 pub fn written_laws()
-    // They are names of the grammar, of kinds that are built and of complete steps.
+    // They are names of the grammar, of kinds that their entities have and of complete steps.
     ensures within { (list : ChangeList) (name : FileName) → IsChangeList list →
         Contains (written_names list) name → IsTrue (is_name name) × MayStand list name }
 {}

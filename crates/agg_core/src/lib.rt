@@ -2,7 +2,5 @@
 #![tactic(auto)]
 
 mod laws;
-mod names;
 
 pub use laws::{file_laws, written_laws};
-pub use names::{filed_entity, has_files, step_name};

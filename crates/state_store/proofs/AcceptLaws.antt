@@ -10,7 +10,7 @@ use Rattle.std.proofs.lemmas.List.Sorted.{All-permutation}
 use Rattle.agg_outside.specs.declared.disk.Disk.{Ghosts as DiskGhosts}
 use Rattle.agg_outside.specs.declared.rows.Row.{Row}
 use Rattle.agg_outside.specs.Files.{Files}
-use Rattle.agg_outside.specs.Rows.{Held}
+use Rattle.agg_outside.specs.Rows.{Held, applied}
 use Rattle.agg_model.specs.declared.change.Change.{Change}
 use Rattle.agg_model.specs.declared.entity.Entity.{Entity}
 use Rattle.agg_model.specs.declared.entity.FileKind.{FileKind}
@@ -34,14 +34,16 @@ use Rattle.merge_ranges.specs.Name.{has_kind}
 use Rattle.merge_ranges.specs.CanonicalNames.{kinds, group_names}
 use Rattle.collate_step.specs.Groups.{GroupFiles, AreGroupsBelow, group_of}
 use Rattle.row_epochs.specs.Seen.{seen, shown, view, SameUpTo}
-use Rattle.row_epochs.specs.Changes.{IsNew, change_of, changes_seen}
+use Rattle.row_epochs.specs.Changes.{IsNew, change_of, changes_seen, writes_of}
 use Rattle.row_epochs.specs.Versions.{Versions}
 use Rattle.agg_core.specs.Files.{HasExactly}
 use Rattle.agg_core.proofs.Stays.{file_bytes-later}
 use Rattle.group_files.specs.NewFiles.{names_for}
 use Rattle.state_store.specs.declared.store.Store.{Store}
 use Rattle.state_store.specs.declared.view.View.{View}
-use Rattle.state_store.specs.Store.{seen_from, told_from, IsStepBelow, AreBelow, SeesAll, IsStore, Holds, Sees, Commits, set_of}
+use Rattle.epoch_window.specs.Seen.{seen_from, told_from}
+use Rattle.state_store.specs.Store.{IsStepBelow, AreBelow, SeesAll, IsStore, Holds, Sees, Commits, set_of, ArePlain}
+use Rattle.state_store.proofs.PlainLaws.{plain_after}
 
 -- ---- numbers
 
@@ -100,13 +102,16 @@ pub record Ingested (old new : Versions) (batch : List Change) : Type 0 where
   pub epoch : new.epoch ≡ old.epoch + 1
   pub changes : IfSome old.told (λ h. IsSomeAnd new.told (λ k. changes_seen (old.epoch + 1) k.rows ≡ arranged_from (changes_seen old.epoch h.rows) batch))
   pub silent : IfNone old.told (new.told ≡ None)
+  pub plain : ForSome old.told ArePlain → ForSome new.told ArePlain
 
 pub ingested : (old new : Versions) (pending batch : List Change) → batch ≡ merged pending → new.epoch ≡ old.epoch + 1
-    → IfSome old.told (λ h. IsSomeAnd new.told (λ k. changes_seen (old.epoch + 1) k.rows ≡ arranged_from (changes_seen old.epoch h.rows) batch)) → IfNone old.told (new.told ≡ None) → Ingested old new (merged pending)
-ingested old new pending batch is epoch changes silent = record {
+    → IfSome old.told (λ h. IsSomeAnd new.told (λ k. changes_seen (old.epoch + 1) k.rows ≡ arranged_from (changes_seen old.epoch h.rows) batch)) → IfNone old.told (new.told ≡ None)
+    → IfSome old.told (λ h. new.told ≡ Some (applied (writes_of (old.epoch + 1) batch) h)) → Ingested old new (merged pending)
+ingested old new pending batch is epoch changes silent told = record {
   epoch = epoch;
   changes = subst (λ (cs : List Change). IfSome old.told (λ h. IsSomeAnd new.told (λ k. changes_seen (old.epoch + 1) k.rows ≡ arranged_from (changes_seen old.epoch h.rows) cs))) is changes;
   silent = silent;
+  plain = plain_after old.told new.told (old.epoch + 1) batch told silent;
 }
 
 raised : (low high : ℕ) (cs : List Change) → low ≤ high → All (λ c. c.tx < low) cs → All (λ c. c.tx < high) cs
@@ -221,6 +226,7 @@ grows_after disk store list hot batch next content holds fits none rows is_next 
     record {
       valid = grown-IsChangeList list batch holds.valid fits_list none;
       rows = sees_all list store.hot hot batch rows holds.rows;
+      plain = rows.plain holds.plain;
       next = is_next ∙ ap (λ n. next_of n batch) holds.next;
       content = is_content ∙ ap (λ n. n + content_of batch) holds.content ∙ sym (content_of-append list.changes batch);
       size = holds.size;

@@ -27,7 +27,9 @@ use Rattle.agg_core.proofs.Kept.{outside-refl}
 use Rattle.group_files.specs.NewFiles.{names_for}
 use Rattle.state_store.specs.declared.store.Store.{Store}
 use Rattle.state_store.specs.declared.view.View.{View}
-use Rattle.state_store.specs.Store.{seen_from, told_from, IsStepBelow, AreBelow, IsStore, Holds, Sees, Goes, set_of, ArePinned, HasNoFile, no_changes}
+use Rattle.epoch_window.specs.Seen.{seen_from, told_from}
+use Rattle.state_store.proofs.PlainLaws.{none_plain}
+use Rattle.state_store.specs.Store.{IsStepBelow, AreBelow, IsStore, Holds, Sees, Goes, set_of, HasView, ArePinned, HasNoFile, no_changes}
 
 -- ---- what is opened sees the list
 
@@ -70,6 +72,7 @@ holds_with disk store sets list same holds =
     record {
       valid = holds.valid;
       rows = holds.rows;
+      plain = holds.plain;
       next = holds.next;
       content = holds.content;
       size = holds.size;
@@ -126,12 +129,12 @@ nothing_stands size f none = record {
   no_temporary = λ name is. none (temporary_of name);
 }
 
-nothing_seen : (o : Option Held) (epoch : ℕ) → IsSomeAnd o (λ h. h.rows ≡ []) → IsSomeAnd o (λ h. changes_seen epoch h.rows ≡ arranged [])
+nothing_seen : (o : Option Held) (epoch : ℕ) → IsSomeAnd o (λ h. (h.rows ≡ []) × (h.floor ≡ 0)) → IsSomeAnd o (λ h. changes_seen epoch h.rows ≡ arranged [])
 unfolding arranged
 nothing_seen None epoch none = none
-nothing_seen (Some h) epoch none = ap (λ (rows : List Row). changes_seen epoch rows) none
+nothing_seen (Some h) epoch none = ap (λ (rows : List Row). changes_seen epoch rows) none.0
 
-pub holds_none : {D K : Type 0} (disk : DiskGhosts D) (store : Store D K) (size : ℕ) → 1 ≤ size → size ≤ 2 ^ 32 → IsSomeAnd store.hot.told (λ h. h.rows ≡ []) → ForSome (disk.files store.disk) HasNoFile
+pub holds_none : {D K : Type 0} (disk : DiskGhosts D) (store : Store D K) (size : ℕ) → 1 ≤ size → size ≤ 2 ^ 32 → IsSomeAnd store.hot.told (λ h. (h.rows ≡ []) × (h.floor ≡ 0)) → ForSome (disk.files store.disk) HasNoFile
     → store.next ≡ 0 → store.content ≡ 0 → store.size ≡ size → store.sets.current.groups ≡ [] → store.sets.current.end ≡ 0 → Holds disk store (no_changes size)
 holds_none disk store size some small rows files next content is_size groups end =
     let P : List GroupFiles → Type 0 = λ gs. AreGroupsBelow (no_changes size) store.sets.current.end gs in
@@ -150,6 +153,7 @@ holds_none disk store size some small rows files next content is_size groups end
         fit = All-nil IsChange;
       };
       rows = nothing_seen store.hot.told store.hot.epoch rows;
+      plain = none_plain store.hot.told rows;
       next = next;
       content = content;
       size = is_size;
@@ -187,3 +191,12 @@ sound_with store sets most same sound =
       complete = subst P (sym same) sound.complete;
       below = sound.below;
     }
+
+-- ---- a view's files are of steps below its next number
+
+pub view_has : {D K : Type 0} (old new : Store D K) (most : ℕ) (view : View) → new.size ≡ old.size → IsStore most old → view.next ≡ old.next → set_of view ≡ old.sets.current → HasView new view
+view_has old new most view size sound next set =
+    let P : SetOf GroupFiles → Type 0 = λ s. s.end * new.size ≤ view.next in
+    let Q : ℕ → Type 0 = λ n. old.sets.current.end * n ≤ view.next in
+    let R : ℕ → Type 0 = λ n. old.sets.current.end * old.size ≤ n in
+    subst P (sym set) (subst Q (sym size) (subst R (sym next) sound.complete))

@@ -1,13 +1,13 @@
 -- Which list a store of versioned rows and of sets of groups holds, what its views see, and what each call keeps.
-use Rattle.std.specs.Prelude.{◌≡◌, ℕ, ◌+◌, ◌*◌, ◌<◌, ◌≤◌, ◌^◌, nat_le, List, [], ◌∷◌, length, All, Option, None, IfSome, IfNone, IsSomeAnd, is_some, Result, IsErrOf}
+use Rattle.std.specs.Prelude.{◌≡◌, ℕ, ◌+◌, ◌*◌, ◌<◌, ◌≤◌, ◌^◌, List, [], ◌∷◌, length, All, Option, None, IfSome, IfNone, IsSomeAnd, is_some, Result, IsErrOf}
 use Rattle.std.specs.Arc.{arc_value}
 use Rattle.std.specs.FinMap.{get}
-use Rattle.std.specs.Option.{ForSome, option_map}
-use Rattle.std.specs.List.{filter}
+use Rattle.std.specs.Option.{ForSome}
 use Rattle.agg_outside.specs.declared.disk.Disk.{Ghosts as DiskGhosts}
 use Rattle.agg_outside.specs.Counts.{Rose}
 use Rattle.agg_outside.specs.Files.{Files}
 use Rattle.agg_outside.specs.Rows.{Held}
+use Rattle.agg_outside.specs.declared.rows.Row.{Row}
 use Rattle.agg_model.specs.Arranged.{arranged}
 use Rattle.agg_model.specs.Batch.{content_of}
 use Rattle.agg_model.specs.ChangeList.{ChangeList, IsChangeList, grown, next_of, may_grow}
@@ -15,26 +15,21 @@ use Rattle.agg_model.specs.Merged.{merged}
 use Rattle.agg_model.specs.declared.change.Change.{Change}
 use Rattle.merge_ranges.specs.declared.name.FileName.{FileName}
 use Rattle.collate_step.specs.Groups.{GroupFiles, AreGroupsBelow}
-use Rattle.row_epochs.specs.Changes.{changes_seen}
+use Rattle.row_epochs.specs.Changes.{change_of, changes_seen}
 use Rattle.row_epochs.specs.Versions.{Versions}
 use Rattle.visible_files.specs.declared.held.HeldGroup.{HeldGroup}
 use Rattle.visible_files.specs.Held.{count_of, named_once}
 use Rattle.visible_files.specs.Sets.{SetOf}
 use Rattle.window_reads.specs.Standing.{Stand}
-use Rattle.agg_core.specs.Files.{HasExactly, SameOutside}
+use Rattle.epoch_window.specs.Seen.{told_from}
+use Rattle.agg_core.specs.Files.{HasExactly, HasFile, KeepsNamed, SameOutside}
+use Rattle.agg_core.specs.Rows.{HasRows, said_by, said_of}
 use Rattle.group_files.specs.NewFiles.{names_for}
 use Rattle.state_store.specs.declared.accepting.Accepted.{Accepted}
 use Rattle.state_store.specs.declared.stop.Stop.{Stop}
 use Rattle.state_store.specs.declared.stop.Stop.TheVariants as stops
 use Rattle.state_store.specs.declared.store.Store.{Store}
 use Rattle.state_store.specs.declared.view.View.{View}
-
--- the changes that an epoch sees from a number on, where the keeper tells its rows
-abbrev pub seen_from : ℕ → ℕ → Held → List Change
-seen_from epoch from h = filter (λ c. nat_le from c.tx) (changes_seen epoch h.rows)
-
-abbrev pub told_from : ℕ → ℕ → Versions → Option (List Change)
-told_from epoch from hot = option_map (seen_from epoch from) hot.told
 
 -- a group over one step below this one
 abbrev pub IsStepBelow : ℕ → GroupFiles → Type 0
@@ -57,11 +52,20 @@ pub record IsStore {D K : Type 0} (most : ℕ) (store : Store D K) : Type 0 wher
 abbrev pub SeesAll : Versions → ChangeList → Type 0
 SeesAll hot list = IsSomeAnd hot.told (λ h. changes_seen hot.epoch h.rows ≡ arranged list.changes)
 
+-- the row is alive, and says what its change says
+abbrev pub IsPlain : Row → Type 0
+IsPlain row = (row.killed ≡ 0) × (said_by row ≡ said_of (change_of row))
+
+-- each row is, and the floor is 0
+abbrev pub ArePlain : Held → Type 0
+ArePlain h = All IsPlain h.rows × (h.floor ≡ 0)
+
 -- The present epoch sees the list's changes, and the numbers are the list's. The groups of the current set are those of
 -- its first steps, one step each, and a disk that tells has of the grammar their files and nothing else.
 pub record Holds {D K : Type 0} (disk : DiskGhosts D) (store : Store D K) (list : ChangeList) : Type 0 where
   pub valid : IsChangeList list
   pub rows : SeesAll store.hot list
+  pub plain : ForSome store.hot.told ArePlain
   pub next : store.next ≡ list.next
   pub content : store.content ≡ content_of list.changes
   pub size : store.size ≡ list.size
@@ -69,6 +73,26 @@ pub record Holds {D K : Type 0} (disk : DiskGhosts D) (store : Store D K) (list 
   pub groups : AreGroupsBelow list store.sets.current.end store.sets.current.groups
   pub single : All (IsStepBelow store.sets.current.end) store.sets.current.groups
   pub stand : ForSome (disk.files store.disk) (HasExactly list (names_for store.sets.current.groups))
+
+-- how many steps the groups cover
+abbrev pub steps_held : {D K : Type 0} → Store D K → ℕ
+steps_held store = store.sets.current.end
+
+-- a disk has the files of these groups, and of the grammar else only whole files of the list and temporary names of
+-- files that aren't there
+pub record IsLeft (list : ChangeList) (groups : List GroupFiles) (now : Files) : Type 0 where
+  pub held : All (HasFile list now) (names_for groups)
+  pub kept : KeepsNamed list now
+
+-- What is left of a store that held the list, however a call has ended: its rows, the groups of its first steps, their
+-- files on the disk, and there nothing else of the grammar but whole files and a temporary name.
+pub record Keeps {D K : Type 0} (disk : DiskGhosts D) (store : Store D K) (list : ChangeList) : Type 0 where
+  pub valid : IsChangeList list
+  pub rows : IsSomeAnd store.hot.told (λ h. HasRows h list)
+  pub complete : store.sets.current.end * list.size ≤ list.next
+  pub groups : AreGroupsBelow list store.sets.current.end store.sets.current.groups
+  pub single : All (IsStepBelow store.sets.current.end) store.sets.current.groups
+  pub stand : ForSome (disk.files store.disk) (IsLeft list store.sets.current.groups)
 
 -- the set that a view has pinned
 abbrev pub set_of : View → SetOf GroupFiles
@@ -80,6 +104,10 @@ pub record Sees (hot : Versions) (size : ℕ) (view : View) (list : ChangeList) 
   pub epoch : view.epoch ≤ hot.epoch
   pub stands : Stand list (set_of view).groups (told_from view.epoch ((set_of view).end * list.size) hot) size
       (set_of view).end view.next
+
+-- the files of the view are of steps below its next number
+abbrev pub HasView : {D K : Type 0} → Store D K → View → Type 0
+HasView store view = (set_of view).end * store.size ≤ view.next
 
 -- how often views that are open pin a name
 abbrev pub pins_of : List View → FileName → ℕ
@@ -99,6 +127,14 @@ pub record Goes {D K : Type 0} (disk : DiskGhosts D) (old new : Store D K) : Typ
   pub disk_faults : disk.faults old.disk ≤ disk.faults new.disk
   pub keeper_faults : old.hot.faults ≤ new.hot.faults
   pub sees : (view : View) (list : ChangeList) → Sees old.hot old.size view list → Sees new.hot new.size view list
+
+-- only the disk, the sets and the count of the keeper's faults have changed
+abbrev pub IsSettling : {D K : Type 0} → Store D K → Store D K → Type 0
+IsSettling old new = new ≡ record old {
+  disk = new.disk;
+  hot = record old.hot { faults = new.hot.faults };
+  sets = new.sets;
+}
 
 -- a disk that has no file
 abbrev pub HasNoFile : Files → Type 0

@@ -1,5 +1,5 @@
 //! A batch that is added to the accepted changes.
-ghost use Rattle.std.specs.Prelude.{◌≡◌, ◌*◌, ◌<◌, ◌≤◌, ◌^◌, All, None, IfOk, IfErr, OnErr};
+ghost use Rattle.std.specs.Prelude.{◌≡◌, ◌*◌, ◌<◌, ◌≤◌, ◌^◌, All, ◌+◌, None, IfOk, IfErr, OnErr, IsErrOf};
 ghost use Rattle.agg_model.specs.Batch.{content_of, IsBatch};
 ghost use Rattle.agg_model.specs.ChangeList.{ChangeList, next_of, begins_from};
 ghost use Rattle.state_store.specs.Store.{IsStore, Holds, Commits, Goes, HasCauses};
@@ -41,6 +41,10 @@ impl<D: Disk, K: Keeper> Store<D, K> {
         ensures only { IfErr result (λ stop. stop ≡ Stop.Disk → ⊥) }
         // At the last epoch nothing is added.
         ensures rises { self.old.hot.epoch ≡ 2 ^ 62 → IfOk result (λ answer. answer ≡ None) }
+        // And that is the only way for the epoch to be worn.
+        ensures worn { IsErrOf result Stop.Worn → self.old.hot.epoch ≡ 2 ^ 62 }
+        ensures epoch { self.new.hot.epoch ≤ self.old.hot.epoch + 1 }
+        ensures holds { (list : ChangeList) → Holds D.Disk self.old list → OnErr result (Holds D.Disk self.new list) }
         ensures err { OnErr result (self.new
             ≡ record self.old { hot = record self.old.hot { faults = self.new.hot.faults } }) }
         ensures goes { Goes D.Disk self.old self.new }

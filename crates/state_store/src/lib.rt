@@ -2,13 +2,19 @@
 #![tactic(auto)]
 
 mod accepting;
+mod laws;
+mod looking;
+mod reading;
+mod settling;
+mod steps;
 mod stop;
 mod store;
 mod view;
 
 pub use accepting::Accepted;
+pub use laws::store_laws;
 pub use stop::Stop;
-pub use store::Store;
+pub use store::{NotMade, Store};
 pub use view::View;
 
 #[cfg(test)]

@@ -1,8 +1,9 @@
 ghost use Rattle.std.specs.Prelude.{◌≡◌};
-ghost use Rattle.state_store.specs.Stop.{stop_of, stop_of_disk};
+ghost use Rattle.state_store.specs.Stop.{stop_of, stop_of_disk, stop_of_read};
 ghost use Rattle.state_store.specs.declared.stop.Stop.TheVariants.{Memory as wants_memory};
 
 use agg_outside::{DiskError, Memory};
+use hot_keeper::ReadError;
 use row_epochs::RowsError;
 
 /// Why a line could not be worked on.
@@ -45,6 +46,17 @@ impl From<RowsError> for Stop {
             RowsError::Keeper => Stop::Keeper,
             RowsError::Worn { .. } => Stop::Worn,
             RowsError::Memory => Stop::Memory,
+        }
+    }
+}
+
+impl From<ReadError> for Stop {
+    ghost from_gives = { λ error stop. stop ≡ stop_of_read error };
+
+    fn from(error: ReadError) -> Stop {
+        match error {
+            ReadError::Keeper => Stop::Keeper,
+            ReadError::Memory => Stop::Memory,
         }
     }
 }

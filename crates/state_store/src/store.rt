@@ -1,5 +1,5 @@
 //! The accepted changes, as versioned rows of a keeper and groups of files on a disk.
-ghost use Rattle.std.specs.Prelude.{◌≡◌, [], ◌∷◌, ◌*◌, ◌+◌, ◌<◌, ◌≤◌, ◌^◌, ℕ, List, map, IfOk, OnErr, IsSomeAnd};
+ghost use Rattle.std.specs.Prelude.{◌≡◌, [], ◌∷◌, ◌*◌, ◌+◌, ◌<◌, ◌≤◌, ◌^◌, ℕ, List, map, IfOk, IfErr, OnErr, IsSomeAnd};
 ghost use Rattle.std.specs.Option.{ForSome};
 ghost use Rattle.agg_model.specs.ChangeList.{ChangeList};
 ghost use Rattle.merge_ranges.specs.declared.name.FileName.{FileName};
@@ -7,7 +7,7 @@ ghost use Rattle.merge_ranges.specs.Name.{spelled};
 ghost use Rattle.visible_files.specs.Held.{count_of};
 ghost use Rattle.group_files.specs.NewFiles.{files_of_groups, new_names};
 ghost use Rattle.state_store.specs.declared.view.View.{View};
-ghost use Rattle.state_store.specs.Store.{IsStore, Holds, Sees, Goes, ArePinned, HasNoFile, set_of, no_changes};
+ghost use Rattle.state_store.specs.Store.{IsStore, Holds, Sees, HasView, Goes, ArePinned, HasNoFile, set_of, no_changes};
 
 use crate::view::View;
 use agg_outside::{Disk, Keeper, Memory, Names};
@@ -36,20 +36,32 @@ pub struct Store<D: Disk, K: Keeper> {
     pub(crate) size: u64,
 }
 
+/// What a store could not be made of for want of memory.
+#[derive(Drop)]
+pub struct NotMade<D, K> {
+    pub disk: D,
+    pub keeper: K,
+}
+
 impl<D: Disk, K: Keeper> Store<D, K> {
-    /// No changes and no group yet, at the first epoch, over an empty disk and an empty keeper.
-    pub fn new(alloc: Global, disk: D, keeper: K, size: u64) -> Result<Store<D, K>, Memory>
+    /// No changes and no group yet, at the first epoch, over an empty disk and an empty keeper; for want of memory these
+    /// are given back.
+    pub fn new(alloc: Global, disk: D, keeper: K, size: u64) -> Result<Store<D, K>, NotMade<D, K>>
         requires rows { ForSome (K.held keeper) (λ h. h.rows ≡ []) }
+        ensures err { IfErr result (λ n. n ≡ record { disk = disk; keeper = keeper }) }
         ensures disk { IfOk result (λ s. s.disk ≡ disk) }
         ensures hot { IfOk result (λ s. s.hot ≡ record { told = K.held keeper; epoch = 1; faults = K.faults keeper }) }
         ensures numbers { IfOk result (λ s. (s.next ≡ 0) × (s.content ≡ 0) × (s.size ≡ size)) }
         ensures set { IfOk result (λ s. (s.sets.current.groups ≡ []) × (s.sets.current.end ≡ 0)) }
         ensures pins { IfOk result (λ s. (n : FileName) → count_of s.sets.held n ≡ 0) }
         ensures sound { (most : ℕ) → 1 ≤ size → size ≤ 2 ^ 32 → IfOk result (λ s. IsStore most s) }
-        ensures holds { 1 ≤ size → size ≤ 2 ^ 32 → IsSomeAnd (K.held keeper) (λ h. h.rows ≡ []) →
+        ensures holds { 1 ≤ size → size ≤ 2 ^ 32 → IsSomeAnd (K.held keeper) (λ h. (h.rows ≡ []) × (h.floor ≡ 0)) →
             ForSome (D.files disk) HasNoFile → IfOk result (λ s. Holds D.Disk s (no_changes size)) }
     {
-        let sets = FileSets::new(alloc, Vec::new(alloc), 0)?;
+        let sets = match FileSets::new(alloc, Vec::new(alloc), 0) {
+            Ok(sets) => sets,
+            Err(_) => return Err(NotMade { disk, keeper }),
+        };
         let hot = Hot::of(Rows::of(keeper, FIRST_EPOCH));
         Ok(Store {
             disk,
@@ -68,6 +80,13 @@ impl<D: Disk, K: Keeper> Store<D, K> {
         self.size
     }
 
+    /// The number from which on the next changes come.
+    pub fn next(&self) -> u64
+        ensures { result ≡ self.now.next }
+    {
+        self.next
+    }
+
     /// What a transaction keeps that is opened now: it reads the changes below the next number, for as long as it
     /// is open, whatever is added or settled meanwhile. The files of its groups are pinned once more.
     pub fn open(&mut self) -> Result<View, Memory>
@@ -78,6 +97,7 @@ impl<D: Disk, K: Keeper> Store<D, K> {
             IfOk result (λ v. Sees self.new.hot self.new.size v list) }
         ensures pinned { (views : List View) → ArePinned self.old.sets.held views →
             IfOk result (λ v. ArePinned self.new.sets.held (v ∷ views)) }
+        ensures has { (most : ℕ) → IsStore most self.old → IfOk result (λ v. HasView self.new v) }
         ensures unpinned { OnErr result (self.new.sets.held ≡ self.old.sets.held) }
         ensures current { self.new.sets.current ≡ self.old.sets.current }
         ensures others { self.new ≡ record self.old { sets = self.new.sets } }

@@ -31,8 +31,11 @@ fn put_in<D: Disk, K: Keeper>(
     keeper: K,
 ) -> Result<(View, Store<D, K>), Fail>
     requires { ForSome (K.held keeper) (λ h. h.rows ≡ []) }
+    ensures { IfOk result (λ r. IsStore (2 ^ 28) r.1) }
 {
-    let mut store = Store::new(alloc, disk, keeper, 4)?;
+    let Ok(mut store) = Store::new(alloc, disk, keeper, 4) else {
+        return Err(Fail::new("no store"));
+    };
     let view = store.open()?;
     let batch = one_put(alloc)?;
     let Ok(()) = check_batch(0, 4096 * 4, &batch) else {

@@ -28,11 +28,11 @@ next_of-next-requires g c =
     (omega (arith, c.requires.sound.size_within))
 
 pub ingest-requires-clause-apart : goal.ingest-requires-clause-apart
-ingest-requires-clause-apart g c κs within =
+ingest-requires-clause-apart g c =
     subst (λ (cs : List Change). HasNoRepeats cs) (sym c.in_ok-batch.ensures) (merged-HasNoRepeats c.args.pending)
 
 pub ingest-requires-clause-new : goal.ingest-requires-clause-new
-ingest-requires-clause-new g c κs within =
+ingest-requires-clause-new g c =
     let begins : begins_from c.args.self.now.next c.args.pending ≡ true = sym c.begins_from.ensures ∙ c.if-not-begins_from.false in
     can_add c.args.self.now.hot c.args.self.now.next _ c.args.pending c.in_ok-batch.batch c.in_ok-batch.ensures c.requires.sound.below
     (next_batch c.args.self.now.next _ c.args.pending c.requires.batch begins)
@@ -42,7 +42,7 @@ returns-clause-sound g c =
     let begins : begins_from c.args.self.now.next c.args.pending ≡ true = sym c.begins_from.ensures ∙ c.if-not-begins_from.false in
     sound_after c.args.most c.args.self.now c.ingest.new.self (merged c.args.pending) c.next_of-next.result _ c.requires.sound
     (next_batch c.args.self.now.next _ c.args.pending c.requires.batch begins)
-    (ingested c.args.self.now.hot c.ingest.new.self c.args.pending c.in_ok-batch.batch c.in_ok-batch.ensures c.in_ok-ingest.ensures.epoch c.in_ok-ingest.ensures.changes c.in_ok-ingest.ensures.silent)
+    (ingested c.args.self.now.hot c.ingest.new.self c.args.pending c.in_ok-batch.batch c.in_ok-batch.ensures c.in_ok-ingest.ensures.epoch c.in_ok-ingest.ensures.changes c.in_ok-ingest.ensures.silent c.in_ok-ingest.ensures.ok)
     (c.next_of-next.ensures ∙ ap (next_of c.args.self.now.next) c.in_ok-batch.ensures)
     (omega (arith, c.if-self-more.false))
 
@@ -53,7 +53,7 @@ returns-clause-commits g c =
     rw (c.len-changes.ensures, c.in_ok-batch.ensures)
     (commits_after g.D.Disk c.args.most c.args.self.now c.ingest.new.self c.args.pending c.next_of-next.result _ c.requires.batch begins
     (omega (arith, c.if-self-more.false, more))
-    (ingested c.args.self.now.hot c.ingest.new.self c.args.pending c.in_ok-batch.batch c.in_ok-batch.ensures c.in_ok-ingest.ensures.epoch c.in_ok-ingest.ensures.changes c.in_ok-ingest.ensures.silent)
+    (ingested c.args.self.now.hot c.ingest.new.self c.args.pending c.in_ok-batch.batch c.in_ok-batch.ensures c.in_ok-ingest.ensures.epoch c.in_ok-ingest.ensures.changes c.in_ok-ingest.ensures.silent c.in_ok-ingest.ensures.ok)
     (c.next_of-next.ensures ∙ ap (next_of c.args.self.now.next) c.in_ok-batch.ensures)
     (ap (λ n. c.args.self.now.content + n) more))
 

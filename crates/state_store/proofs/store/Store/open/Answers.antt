@@ -1,5 +1,5 @@
 use Rattle.std.proofs.Common.{refl}
-use Rattle.state_store.proofs.ViewLaws.{sees_opened, holds_with, sound_with}
+use Rattle.state_store.proofs.ViewLaws.{sees_opened, holds_with, sound_with, view_has}
 use Rattle.state_store.proofs.store.Store.open.Goals as goal
 
 pub returns-in_err-set-clause-sound : goal.returns-in_err-set-clause-sound
@@ -17,3 +17,7 @@ returns-clause-sound g c = λ most sound. sound_with c.args.self.now c.pin.new.s
 
 pub returns-clause-holds : goal.returns-clause-holds
 returns-clause-holds g c = λ list holds. holds_with g.D.Disk c.args.self.now c.pin.new.self list c.in_ok-set.ensures.current holds
+
+pub returns-clause-has : goal.returns-clause-has
+returns-clause-has g c = λ most sound.
+    view_has c.args.self.now (record c.args.self.now { sets = c.pin.new.self }) most (record { next = c.args.self.now.next; epoch = c.epoch.result; set = c.in_ok-set.set }) refl sound refl c.in_ok-set.ensures.set

@@ -1,9 +1,0 @@
-pub mod RowLaws
-pub mod CanonicalLaws
-pub mod CoverLaws
-pub mod ReadingLaws
-pub mod GoingLaws
-pub mod StoreLaws
-pub mod CollatingLaws
-pub mod PublishingLaws
-pub mod SettlingLaws

@@ -1,8 +1,0 @@
-use Rattle.std.proofs.Common.{sym}
-use Rattle.plain_state.proofs.StoreLaws.{next_of-last}
-use Rattle.plain_state.proofs.store.next_of.Goals as goal
-
-pub returns-in-Some : goal.returns-in-Some
-returns-in-Some c =
-    rw (← c.as_slice.ensures)
-    (sym (next_of-last c.args.next c.as_slice.result.now c.in-Some.last.now (sym c.in-Some.ensures.value)))

@@ -1,6 +1,0 @@
-pub mod Rows
-pub mod Reading
-pub mod Canonical
-pub mod Store
-pub mod Stop
-pub mod Collating

@@ -1,0 +1,50 @@
+use Rattle.std.proofs.Common.{map, refl, ap, sym, subst, ◌∙◌}
+use Rattle.std.specs.Arc.{arc_value}
+use Rattle.collate_step.specs.Groups.{GroupFiles}
+use Rattle.visible_files.specs.Sets.{SetOf}
+use Rattle.state_store.specs.Settling.{IsNextStep, CanAdd, Follows}
+use Rattle.state_store.proofs.SettlingLaws.{settled_with, keeps_settled, left_now, on_err, made_next, has_taken, holds_taken}
+use Rattle.state_store.proofs.store.Store.settle_step.Goals as goal
+
+pub returns-in_err-groups-clause-err : goal.returns-in_err-groups-clause-err
+returns-in_err-groups-clause-err g c = λ list holds.
+    let old = c.args.self.now in
+    on_err c.from_residual.result _
+    (keeps_settled old _ (settled_with old old.disk c.groups_of_step.new.hot old.sets c.in_err-groups.ensures.same) g.D.Disk list c.in_err-groups.ensures.rows refl (left_now g.D.Disk old list holds) holds)
+
+pub returns-in_err-next-clause-err : goal.returns-in_err-next-clause-err
+returns-in_err-next-clause-err g c = λ list holds.
+    let old = c.args.self.now in
+    on_err c.from_residual-in_err-next.result _
+    (keeps_settled old _ (settled_with old old.disk c.groups_of_step.new.hot c.prepared.new.sets c.in_ok-groups.ensures.same) g.D.Disk list c.in_ok-groups.ensures.rows c.in_err-next.ensures.current (left_now g.D.Disk old list holds) holds)
+
+pub returns-in_err-publish_step-clause-err : goal.returns-in_err-publish_step-clause-err
+returns-in_err-publish_step-clause-err g c = λ list holds.
+    let old = c.args.self.now in
+    let at = c.end-step.ensures ∙ ap (λ (s : SetOf GroupFiles). s.end) c.current.ensures in
+    let below_are = c.groups-below.ensures.value ∙ ap (λ (s : SetOf GroupFiles). s.groups) c.current-2.ensures in
+    let added = map (λ a. arc_value a) c.deref-2.result.now in
+    let next =
+    made_next g.D.Disk old c.requires.due c.requires.sound c.requires.content c.end-step.result at (map (λ a. arc_value a) c.groups-below.result.now) added below_are
+    (λ l valid small size sees below. ap (map (λ a. arc_value a)) c.deref-2.ensures.value ∙ c.in_ok-groups.ensures.groups l valid small size sees below) list holds in
+    let here = subst (λ n. IsNextStep list n old.sets.current.groups added) (sym at) next in
+    on_err c.from_residual-in_err-publish_step.result _
+    (keeps_settled old _ (settled_with old c.publish_step.new.disk c.groups_of_step.new.hot c.prepared.new.sets c.in_ok-groups.ensures.same) g.D.Disk list c.in_ok-groups.ensures.rows c.in_ok-next.ensures.current
+    (c.in_err-publish_step.ensures.err list old.sets.current.groups here holds.stand) holds)
+
+pub returns-clause-holds : goal.returns-clause-holds
+returns-clause-holds g c = λ list holds.
+    let old = c.args.self.now in
+    let at = c.end-step.ensures ∙ ap (λ (s : SetOf GroupFiles). s.end) c.current.ensures in
+    let below_are = c.groups-below.ensures.value ∙ ap (λ (s : SetOf GroupFiles). s.groups) c.current-2.ensures in
+    let added = map (λ a. arc_value a) c.deref-2.result.now in
+    let next =
+    made_next g.D.Disk old c.requires.due c.requires.sound c.requires.content c.end-step.result at (map (λ a. arc_value a) c.groups-below.result.now) added below_are
+    (λ l valid small size sees below. ap (map (λ a. arc_value a)) c.deref-2.ensures.value ∙ c.in_ok-groups.ensures.groups l valid small size sees below) list holds in
+    let here = subst (λ n. IsNextStep list n old.sets.current.groups added) (sym at) next in
+    let same = ap (map (λ a. arc_value a)) (c.deref.ensures.value ∙ sym c.deref-2.ensures.value) in
+    let taken =
+    has_taken old.sets.current c.prepared.new.sets added c.in_ok-next.next c.publish.new.self.current c.in_ok-next.ensures.current
+    (subst (λ gs. Follows c.prepared.new.sets gs c.in_ok-next.next) same c.in_ok-next.ensures.next) (subst (λ gs. CanAdd old.sets.current gs) same c.in_ok-next.ensures.can) c.publish.ensures.current in
+    holds_taken g.D.Disk old c.requires.due c.requires.sound _ (settled_with old c.publish_step.new.disk c.groups_of_step.new.hot c.publish.new.self c.in_ok-groups.ensures.same) added taken list next
+    (c.in_ok-publish_step.ensures.ok list old.sets.current.groups here holds.stand) holds
