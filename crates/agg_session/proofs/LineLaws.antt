@@ -1,7 +1,6 @@
 -- Laws of the effect of one line.
 use Rattle.std.proofs.Common.{◌≡◌, ℕ, Bool, true, false, ◌==◌, List, [], ◌∷◌, length, Option, Some, None, IfSome, refl, ap, subst, sym, ◌∙◌, inl, inr, arith, eqb-true}
 use Rattle.agg_outside.specs.declared.disk.Disk.{Ghosts as DiskGhosts}
-use Rattle.agg_outside.specs.declared.keeper.Keeper.{Ghosts as KeeperGhosts}
 use Rattle.line_words.specs.declared.reply.Reply.{Reply}
 use Rattle.line_words.specs.Requests.{request_of}
 use Rattle.line_words.specs.Replies.{reply_text}
@@ -11,9 +10,9 @@ use Rattle.agg_session.specs.State.{State, Outcome}
 use Rattle.agg_session.specs.Answer.{Effect, effect_of, read_outcome, short_effect}
 use Rattle.agg_model.specs.ChangeList.{ChangeList}
 use Rattle.line_words.specs.LineCut.{Piece}
-use Rattle.plain_state.specs.declared.store.Store.{Store}
-use Rattle.plain_state.specs.Store.{Holds}
-use Rattle.plain_state.proofs.StoreLaws.{kept}
+use Rattle.state_store.specs.declared.store.Store.{Store}
+use Rattle.state_store.specs.Store.{Holds}
+use Rattle.agg_session.proofs.StoreLaws.{kept}
 use Rattle.agg_session.specs.Running.{Stands, Answers, HasEffect, EndsAt}
 
 pub short_effect-empty : (limits : Limits) (number : ℕ) (line : List ℕ) (s : State) → line ≡ [] → short_effect limits number line s ≡ record { state = s; reply = []; settled = 0 }
@@ -24,25 +23,25 @@ short_effect-some limits number [] s some = absurd (some refl)
 short_effect-some limits number (b ∷ line) s some = refl
 
 -- a line that leaves the session as it is
-pub effect_same : {D K : Type 0} (disk : DiskGhosts D) (keeper : KeeperGhosts K) (session : Session D K) (text : List ℕ) (s : State) (d : Effect) → d ≡ record { state = s; reply = text; settled = 0 } → Stands disk keeper session s → HasEffect disk keeper session text d
-effect_same disk keeper session text s d e stands =
-    subst (λ (x : Effect). HasEffect disk keeper session text x) (sym e) (record { told = refl; stands = stands; settled = omega arith })
+pub effect_same : {D K : Type 0} (disk : DiskGhosts D) (session : Session D K) (text : List ℕ) (s : State) (d : Effect) → d ≡ record { state = s; reply = text; settled = 0 } → Stands disk session s → HasEffect disk session text d
+effect_same disk session text s d e stands =
+    subst (λ (x : Effect). HasEffect disk session text x) (sym e) (record { told = refl; stands = stands; settled = omega arith })
 
 -- a line whose reply was found
-pub effect_told : {D K : Type 0} (disk : DiskGhosts D) (keeper : KeeperGhosts K) (session : Session D K) (reply : Reply) (text : List ℕ) (out : Outcome) (d : Effect) → d ≡ effect_of out → Answers disk keeper session reply out → text ≡ reply_text reply → HasEffect disk keeper session text d
-effect_told disk keeper session reply text out d e answers printed =
-    subst (λ (x : Effect). HasEffect disk keeper session text x) (sym e)
+pub effect_told : {D K : Type 0} (disk : DiskGhosts D) (session : Session D K) (reply : Reply) (text : List ℕ) (out : Outcome) (d : Effect) → d ≡ effect_of out → Answers disk session reply out → text ≡ reply_text reply → HasEffect disk session text d
+effect_told disk session reply text out d e answers printed =
+    subst (λ (x : Effect). HasEffect disk session text x) (sym e)
     (record { told = printed ∙ ap reply_text answers.told; stands = answers.stands; settled = answers.settled })
 
 -- where the reply can't be printed the line has been worked on
-pub ends_after : {D K : Type 0} (disk : DiskGhosts D) (keeper : KeeperGhosts K) (session : Session D K) (reply : Reply) (before : State) (out : Outcome) (d : Effect) → d ≡ effect_of out → Answers disk keeper session reply out → EndsAt disk keeper session.store before.list d.state.list
-ends_after disk keeper session reply before out d e answers =
-    inr (kept disk keeper session.store d.state.list (subst (λ (x : Effect). Holds disk keeper session.store x.state.list) (sym e) answers.stands.list))
+pub ends_after : {D K : Type 0} (disk : DiskGhosts D) (session : Session D K) (reply : Reply) (before : State) (out : Outcome) (d : Effect) → d ≡ effect_of out → Answers disk session reply out → EndsAt disk session.store before.list d.state.list
+ends_after disk session reply before out d e answers =
+    inr (kept disk session.store d.state.list (subst (λ (x : Effect). Holds disk session.store x.state.list) (sym e) answers.stands.list))
 
 -- where a line wasn't worked on, if there was one
-pub ends_before : {D K : Type 0} (disk : DiskGhosts D) (keeper : KeeperGhosts K) (store : Store D K) (list : ChangeList) (o : Option Piece) (after : Piece → ChangeList) → Holds disk keeper store list → IfSome o (λ p. EndsAt disk keeper store list (after p))
-ends_before disk keeper store list None after holds = tt
-ends_before disk keeper store list (Some p) after holds = inl (kept disk keeper store list holds)
+pub ends_before : {D K : Type 0} (disk : DiskGhosts D) (store : Store D K) (list : ChangeList) (o : Option Piece) (after : Piece → ChangeList) → Holds disk store list → IfSome o (λ p. EndsAt disk store list (after p))
+ends_before disk store list None after holds = tt
+ends_before disk store list (Some p) after holds = inl (kept disk store list holds)
 
 pub no_bytes : (b : Bool) (line : List ℕ) → b ≡ (length line == 0) → b ≡ true → line ≡ []
 no_bytes b [] e h = refl

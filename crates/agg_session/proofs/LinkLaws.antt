@@ -1,10 +1,15 @@
 -- Laws of what a link keeps.
-use Rattle.std.proofs.Common.{◌≡◌, ℕ, ◌+◌, ◌<◌, List, ◌∷◌, ◌++◌, length, take, drop, get_or, Some, ap, sym, ◌∙◌, eq-eqb, add-one}
+use Rattle.std.proofs.Common.{◌≡◌, ℕ, ◌+◌, ◌<◌, List, [], ◌∷◌, ◌++◌, length, take, drop, get_or, Some, ap, sym, ◌∙◌, eq-eqb, add-one, arith}
 use Rattle.std.proofs.lemmas.List.{drop_more}
 use Rattle.std.proofs.lemmas.Option.{slice_get-get_or}
-use Rattle.plain_state.proofs.StoreLaws.{content_of-append}
+use Rattle.agg_model.specs.Batch.{content_of}
+use Rattle.agg_model.specs.declared.change.Change.{Change}
 use Rattle.agg_session.specs.declared.link.Transaction.{Transaction}
 use Rattle.agg_session.specs.Links.{open_of, transactions_without, IsPlaceOf}
+
+pub content_of-append : (cs ds : List Change) → content_of (cs ++ ds) ≡ content_of cs + content_of ds
+content_of-append [] ds = omega arith
+content_of-append (c ∷ cs) ds = omega (arith, content_of-append cs ds)
 
 pub ruleset appending = (content_of-append)
 

@@ -10,7 +10,6 @@ use Rattle.std.specs.List.{position_or_len}
 use Rattle.std.specs.List.{position}
 use Rattle.std.specs.Option.{ForSome, option_to_list}
 use Rattle.agg_outside.specs.declared.disk.Disk.{Ghosts as DiskGhosts}
-use Rattle.agg_outside.specs.declared.keeper.Keeper.{Ghosts as KeeperGhosts}
 use Rattle.line_words.specs.Lines.{lines_from}
 use Rattle.line_words.specs.LineCut.{Uncut, Piece, is_feed, piece_of, cut_at, next_cut, rest_cut, pieces_of}
 use Rattle.line_words.proofs.Pieces.{next_cut-lines, next_cut-feed, rest_cut-lines}
@@ -20,7 +19,7 @@ use Rattle.agg_session.specs.declared.served.Served.{Served}
 use Rattle.agg_session.specs.State.{State}
 use Rattle.agg_session.specs.Answer.{effect, replies, state_after, AreSettled, joined, but_last, ended_lines}
 use Rattle.agg_session.specs.Running.{Stands, HasEffect}
-use Rattle.plain_state.specs.Store.{steps_held}
+use Rattle.state_store.specs.Store.{steps_held}
 use Rattle.agg_session.specs.Served.{IsServed, IsAnswered, HasAnswered}
 
 pub whole_rest : (n : ℕ) (xs : List ℕ) → take (length xs - n) (drop n xs) ≡ drop n xs
@@ -199,8 +198,8 @@ left_less limit cut new p is cut_is some later =
 -- ---- what is answered
 
 -- one more line is answered, and its reply written
-module _ {D K : Type 0} (disk : DiskGhosts D) (keeper : KeeperGhosts K) (limits : Limits) (session after : Session D K) (first out now : Option (List ℕ)) (start : State) (lines : List Piece) (p : Piece) (number : ℕ) (reply : List ℕ) where
-  pub answered_one : number ≡ length lines → steps_held session.store ≤ steps_held after.store → (all : HasAnswered disk keeper limits session first out start lines) → HasEffect disk keeper after reply (effect limits (number + 1) p (state_after limits 1 lines start)) → ForSome out (λ b. now ≡ Some (b ++ reply)) → HasAnswered disk keeper limits after first now start (lines ++ p ∷ [])
+module _ {D K : Type 0} (disk : DiskGhosts D) (limits : Limits) (session after : Session D K) (first out now : Option (List ℕ)) (start : State) (lines : List Piece) (p : Piece) (number : ℕ) (reply : List ℕ) where
+  pub answered_one : number ≡ length lines → steps_held session.store ≤ steps_held after.store → (all : HasAnswered disk limits session first out start lines) → HasEffect disk after reply (effect limits (number + 1) p (state_after limits 1 lines start)) → ForSome out (λ b. now ≡ Some (b ++ reply)) → HasAnswered disk limits after first now start (lines ++ p ∷ [])
   answered_one count more all steps put =
       let s : State = state_after limits 1 lines start in
       let at : number + 1 ≡ 1 + length lines = omega (arith, count) in
@@ -209,7 +208,7 @@ module _ {D K : Type 0} (disk : DiskGhosts D) (keeper : KeeperGhosts K) (limits 
         settled = settled-one limits 1 lines p start (steps_held after.store)
             (settled-more limits 1 lines start (steps_held session.store) (steps_held after.store) more all.settled)
             (subst (λ n. (effect limits n p s).settled ≤ steps_held after.store) at steps.settled);
-        stands = subst (Stands disk keeper after) (ap (λ n. (effect limits n p s).state) at ∙ sym (state_after-one limits 1 lines p start)) steps.stands;
+        stands = subst (Stands disk after) (ap (λ n. (effect limits n p s).state) at ∙ sym (state_after-one limits 1 lines p start)) steps.stands;
         written = λ before is.
             put (before ++ joined (replies limits 1 lines start)) (all.written before is)
             ∙ ap Some
@@ -221,29 +220,29 @@ module _ {D K : Type 0} (disk : DiskGhosts D) (keeper : KeeperGhosts K) (limits 
       }
 
 -- nothing was cut off: what was answered stays so
-pub answered_same : {D K : Type 0} (disk : DiskGhosts D) (keeper : KeeperGhosts K) (limits : Limits) (old new : Served D K) (first out : Option (List ℕ)) (start : State) (text : List ℕ) → IsServed keeper limits old → new.cut ≡ record old.cut { left = (next_cut old.cut).1 } → (next_cut old.cut).0 ≡ None → new.session ≡ old.session → new.lines ≡ old.lines → IsAnswered disk keeper limits old first out start text → IsAnswered disk keeper limits new first out start text
-answered_same disk keeper limits old new first out start text served cut none session lines all = record {
+pub answered_same : {D K : Type 0} (disk : DiskGhosts D) (limits : Limits) (old new : Served D K) (first out : Option (List ℕ)) (start : State) (text : List ℕ) → IsServed limits old → new.cut ≡ record old.cut { left = (next_cut old.cut).1 } → (next_cut old.cut).0 ≡ None → new.session ≡ old.session → new.lines ≡ old.lines → IsAnswered disk limits old first out start text → IsAnswered disk limits new first out start text
+answered_same disk limits old new first out start text served cut none session lines all = record {
   lines = all.lines;
   cuts = λ later. all.cuts later ∙ ap (λ (ps : List Piece). all.lines ++ ps) (left_same limits.line old.cut new.cut served.limit cut none later);
   count = lines ∙ all.count;
-  all = subst (λ (s : Session _ _). HasAnswered disk keeper limits s first out start all.lines) (sym session) all.all;
+  all = subst (λ (s : Session _ _). HasAnswered disk limits s first out start all.lines) (sym session) all.all;
 }
 
-answered_more-by : {D K : Type 0} (disk : DiskGhosts D) (keeper : KeeperGhosts K) (limits : Limits) (old new : Served D K) (o : Option Piece) (reply : List ℕ) (first out now : Option (List ℕ)) (start : State) (text : List ℕ) → IsServed keeper limits old → new.cut ≡ record old.cut { left = (next_cut old.cut).1 } → (next_cut old.cut).0 ≡ o → true ≡ is_some o → new.lines ≡ old.lines + 1 → steps_held old.session.store ≤ steps_held new.session.store → (all : IsAnswered disk keeper limits old first out start text) → IfSome o (λ piece. HasEffect disk keeper new.session reply (effect limits (old.lines + 1) piece (state_after limits 1 all.lines start))) → ForSome out (λ b. now ≡ Some (b ++ reply)) → IsAnswered disk keeper limits new first now start text
-answered_more-by disk keeper limits old new None reply first out now start text served cut is some lines more all steps put = cc
-answered_more-by disk keeper limits old new (Some p) reply first out now start text served cut is some lines more all steps put = record {
+answered_more-by : {D K : Type 0} (disk : DiskGhosts D) (limits : Limits) (old new : Served D K) (o : Option Piece) (reply : List ℕ) (first out now : Option (List ℕ)) (start : State) (text : List ℕ) → IsServed limits old → new.cut ≡ record old.cut { left = (next_cut old.cut).1 } → (next_cut old.cut).0 ≡ o → true ≡ is_some o → new.lines ≡ old.lines + 1 → steps_held old.session.store ≤ steps_held new.session.store → (all : IsAnswered disk limits old first out start text) → IfSome o (λ piece. HasEffect disk new.session reply (effect limits (old.lines + 1) piece (state_after limits 1 all.lines start))) → ForSome out (λ b. now ≡ Some (b ++ reply)) → IsAnswered disk limits new first now start text
+answered_more-by disk limits old new None reply first out now start text served cut is some lines more all steps put = cc
+answered_more-by disk limits old new (Some p) reply first out now start text served cut is some lines more all steps put = record {
   lines = all.lines ++ p ∷ [];
   cuts = λ later.
       all.cuts later ∙ ap (λ (ps : List Piece). all.lines ++ ps) (left_less limits.line old.cut new.cut p served.limit cut is later)
       ∙ sym (append_assoc all.lines (p ∷ []) (pieces_of limits.line (new.cut.left ++ later)));
   count = omega (arith, lines, all.count, length-append all.lines (p ∷ []));
-  all = answered_one disk keeper limits old.session new.session first out now start all.lines p old.lines reply all.count more all.all steps put;
+  all = answered_one disk limits old.session new.session first out now start all.lines p old.lines reply all.count more all.all steps put;
 }
 
 -- a line was cut off and its reply written
-pub answered_more : {D K : Type 0} (disk : DiskGhosts D) (keeper : KeeperGhosts K) (limits : Limits) (old new : Served D K) (reply : List ℕ) (first out now : Option (List ℕ)) (start : State) (text : List ℕ) → IsServed keeper limits old → new.cut ≡ record old.cut { left = (next_cut old.cut).1 } → true ≡ is_some (next_cut old.cut).0 → new.lines ≡ old.lines + 1 → steps_held old.session.store ≤ steps_held new.session.store → ((s : State) → Stands disk keeper old.session s → IfSome (next_cut old.cut).0 (λ piece. HasEffect disk keeper new.session reply (effect limits (old.lines + 1) piece s))) → ForSome out (λ b. now ≡ Some (b ++ reply)) → IsAnswered disk keeper limits old first out start text → IsAnswered disk keeper limits new first now start text
-answered_more disk keeper limits old new reply first out now start text served cut some lines more exact put all =
-    answered_more-by disk keeper limits old new (next_cut old.cut).0 reply first out now start text served cut refl some lines more all (exact (state_after limits 1 all.lines start) all.all.stands) put
+pub answered_more : {D K : Type 0} (disk : DiskGhosts D) (limits : Limits) (old new : Served D K) (reply : List ℕ) (first out now : Option (List ℕ)) (start : State) (text : List ℕ) → IsServed limits old → new.cut ≡ record old.cut { left = (next_cut old.cut).1 } → true ≡ is_some (next_cut old.cut).0 → new.lines ≡ old.lines + 1 → steps_held old.session.store ≤ steps_held new.session.store → ((s : State) → Stands disk old.session s → IfSome (next_cut old.cut).0 (λ piece. HasEffect disk new.session reply (effect limits (old.lines + 1) piece s))) → ForSome out (λ b. now ≡ Some (b ++ reply)) → IsAnswered disk limits old first out start text → IsAnswered disk limits new first now start text
+answered_more disk limits old new reply first out now start text served cut some lines more exact put all =
+    answered_more-by disk limits old new (next_cut old.cut).0 reply first out now start text served cut refl some lines more all (exact (state_after limits 1 all.lines start) all.all.stands) put
 
 pub none_there : {A : Type 0} (o : Option A) → false ≡ is_some o → o ≡ None
 none_there None e = refl
@@ -259,8 +258,8 @@ if_some (Some y) P x e h = let same : y ≡ x = cc in subst P same h
 
 -- ---- a piece that came
 
-pub answered_pushed : {D K : Type 0} (disk : DiskGhosts D) (keeper : KeeperGhosts K) (limits : Limits) (old new : Served D K) (piece : List ℕ) (first out : Option (List ℕ)) (start : State) (text : List ℕ) → new.cut ≡ record old.cut { left = old.cut.left ++ piece } → new.session ≡ old.session → new.lines ≡ old.lines → IsAnswered disk keeper limits old first out start text → IsAnswered disk keeper limits new first out start (text ++ piece)
-answered_pushed disk keeper limits old new piece first out start text cut session lines all =
+pub answered_pushed : {D K : Type 0} (disk : DiskGhosts D) (limits : Limits) (old new : Served D K) (piece : List ℕ) (first out : Option (List ℕ)) (start : State) (text : List ℕ) → new.cut ≡ record old.cut { left = old.cut.left ++ piece } → new.session ≡ old.session → new.lines ≡ old.lines → IsAnswered disk limits old first out start text → IsAnswered disk limits new first out start (text ++ piece)
+answered_pushed disk limits old new piece first out start text cut session lines all =
     let left : new.cut.left ≡ old.cut.left ++ piece = ap (λ (u : Uncut). u.left) cut in
     let grown : (later : List ℕ) → old.cut.left ++ (piece ++ later) ≡ new.cut.left ++ later = λ later.
     sym (append_assoc old.cut.left piece later) ∙ ap (λ l. l ++ later) (sym left) in
@@ -270,7 +269,7 @@ answered_pushed disk keeper limits old new piece first out start text cut sessio
           ap (pieces_of limits.line) (append_assoc text piece later) ∙ all.cuts (piece ++ later)
           ∙ ap (λ t. all.lines ++ pieces_of limits.line t) (grown later);
       count = lines ∙ all.count;
-      all = subst (λ (s : Session _ _). HasAnswered disk keeper limits s first out start all.lines) (sym session) all.all;
+      all = subst (λ (s : Session _ _). HasAnswered disk limits s first out start all.lines) (sym session) all.all;
     }
 
 -- ---- the last line
@@ -284,24 +283,24 @@ pub last_piece : (limit : ℕ) (cut : Uncut) (o : Option Piece) → cut.limit �
 last_piece limit cut o is none rest =
     subst (λ n. pieces_of n cut.left ≡ option_to_list o) is (rest_cut-lines cut none ∙ ap option_to_list rest)
 
-pub finished_same : {D K : Type 0} (disk : DiskGhosts D) (keeper : KeeperGhosts K) (limits : Limits) (old : Served D K) (session : Session D K) (first out : Option (List ℕ)) (start : State) (text : List ℕ) → IsServed keeper limits old → (next_cut old.cut).0 ≡ None → false ≡ is_some (rest_cut old.cut) → session ≡ old.session → IsAnswered disk keeper limits old first out start text → HasAnswered disk keeper limits session first out start (pieces_of limits.line text)
-finished_same disk keeper limits old session first out start text served none rest is all =
+pub finished_same : {D K : Type 0} (disk : DiskGhosts D) (limits : Limits) (old : Served D K) (session : Session D K) (first out : Option (List ℕ)) (start : State) (text : List ℕ) → IsServed limits old → (next_cut old.cut).0 ≡ None → false ≡ is_some (rest_cut old.cut) → session ≡ old.session → IsAnswered disk limits old first out start text → HasAnswered disk limits session first out start (pieces_of limits.line text)
+finished_same disk limits old session first out start text served none rest is all =
     let whole : pieces_of limits.line text ≡ all.lines =
     whole_text limits.line text old.cut.left all.lines all.cuts
     ∙ ap (λ (ps : List Piece). all.lines ++ ps) (last_piece limits.line old.cut None served.limit none (none_there (rest_cut old.cut) rest))
     ∙ append-nil all.lines in
-    subst (λ (ps : List Piece). HasAnswered disk keeper limits session first out start ps) (sym whole)
-    (subst (λ (s : Session _ _). HasAnswered disk keeper limits s first out start all.lines) (sym is) all.all)
+    subst (λ (ps : List Piece). HasAnswered disk limits session first out start ps) (sym whole)
+    (subst (λ (s : Session _ _). HasAnswered disk limits s first out start all.lines) (sym is) all.all)
 
-finished_more-by : {D K : Type 0} (disk : DiskGhosts D) (keeper : KeeperGhosts K) (limits : Limits) (old : Served D K) (session : Session D K) (o : Option Piece) (reply : List ℕ) (first out now : Option (List ℕ)) (start : State) (text : List ℕ) → IsServed keeper limits old → (next_cut old.cut).0 ≡ None → rest_cut old.cut ≡ o → true ≡ is_some o → steps_held old.session.store ≤ steps_held session.store → (all : IsAnswered disk keeper limits old first out start text) → IfSome o (λ piece. HasEffect disk keeper session reply (effect limits (old.lines + 1) piece (state_after limits 1 all.lines start))) → ForSome out (λ b. now ≡ Some (b ++ reply)) → HasAnswered disk keeper limits session first now start (pieces_of limits.line text)
-finished_more-by disk keeper limits old session None reply first out now start text served none is some more all steps put = cc
-finished_more-by disk keeper limits old session (Some p) reply first out now start text served none is some more all steps put =
+finished_more-by : {D K : Type 0} (disk : DiskGhosts D) (limits : Limits) (old : Served D K) (session : Session D K) (o : Option Piece) (reply : List ℕ) (first out now : Option (List ℕ)) (start : State) (text : List ℕ) → IsServed limits old → (next_cut old.cut).0 ≡ None → rest_cut old.cut ≡ o → true ≡ is_some o → steps_held old.session.store ≤ steps_held session.store → (all : IsAnswered disk limits old first out start text) → IfSome o (λ piece. HasEffect disk session reply (effect limits (old.lines + 1) piece (state_after limits 1 all.lines start))) → ForSome out (λ b. now ≡ Some (b ++ reply)) → HasAnswered disk limits session first now start (pieces_of limits.line text)
+finished_more-by disk limits old session None reply first out now start text served none is some more all steps put = cc
+finished_more-by disk limits old session (Some p) reply first out now start text served none is some more all steps put =
     let whole : pieces_of limits.line text ≡ all.lines ++ p ∷ [] =
     whole_text limits.line text old.cut.left all.lines all.cuts
     ∙ ap (λ (ps : List Piece). all.lines ++ ps) (last_piece limits.line old.cut (Some p) served.limit none is) in
-    subst (λ (ps : List Piece). HasAnswered disk keeper limits session first now start ps) (sym whole)
-    (answered_one disk keeper limits old.session session first out now start all.lines p old.lines reply all.count more all.all steps put)
+    subst (λ (ps : List Piece). HasAnswered disk limits session first now start ps) (sym whole)
+    (answered_one disk limits old.session session first out now start all.lines p old.lines reply all.count more all.all steps put)
 
-pub finished_more : {D K : Type 0} (disk : DiskGhosts D) (keeper : KeeperGhosts K) (limits : Limits) (old : Served D K) (session : Session D K) (reply : List ℕ) (first out now : Option (List ℕ)) (start : State) (text : List ℕ) → IsServed keeper limits old → (next_cut old.cut).0 ≡ None → true ≡ is_some (rest_cut old.cut) → steps_held old.session.store ≤ steps_held session.store → ((s : State) → Stands disk keeper old.session s → IfSome (rest_cut old.cut) (λ piece. HasEffect disk keeper session reply (effect limits (old.lines + 1) piece s))) → ForSome out (λ b. now ≡ Some (b ++ reply)) → IsAnswered disk keeper limits old first out start text → HasAnswered disk keeper limits session first now start (pieces_of limits.line text)
-finished_more disk keeper limits old session reply first out now start text served none some more exact put all =
-    finished_more-by disk keeper limits old session (rest_cut old.cut) reply first out now start text served none refl some more all (exact (state_after limits 1 all.lines start) all.all.stands) put
+pub finished_more : {D K : Type 0} (disk : DiskGhosts D) (limits : Limits) (old : Served D K) (session : Session D K) (reply : List ℕ) (first out now : Option (List ℕ)) (start : State) (text : List ℕ) → IsServed limits old → (next_cut old.cut).0 ≡ None → true ≡ is_some (rest_cut old.cut) → steps_held old.session.store ≤ steps_held session.store → ((s : State) → Stands disk old.session s → IfSome (rest_cut old.cut) (λ piece. HasEffect disk session reply (effect limits (old.lines + 1) piece s))) → ForSome out (λ b. now ≡ Some (b ++ reply)) → IsAnswered disk limits old first out start text → HasAnswered disk limits session first now start (pieces_of limits.line text)
+finished_more disk limits old session reply first out now start text served none some more exact put all =
+    finished_more-by disk limits old session (rest_cut old.cut) reply first out now start text served none refl some more all (exact (state_after limits 1 all.lines start) all.all.stands) put

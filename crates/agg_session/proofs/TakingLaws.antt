@@ -4,7 +4,6 @@ use Rattle.std.specs.Option.{ForSome}
 use Rattle.std.proofs.lemmas.List.{take-append-drop}
 use Rattle.std.proofs.lemmas.Grind.{common_steps}
 use Rattle.agg_outside.specs.declared.disk.Disk.{Ghosts as DiskGhosts}
-use Rattle.agg_outside.specs.declared.keeper.Keeper.{Ghosts as KeeperGhosts}
 use Rattle.line_words.specs.LineCut.{next_cut, pieces_of}
 use Rattle.agg_session.specs.declared.limits.Limits.{Limits}
 use Rattle.agg_session.specs.declared.served.Served.{Served}
@@ -82,16 +81,16 @@ takes_fewer left after text most taken within = λ input told.
 
 -- ---- how far a source was taken
 
-module _ {D K : Type 0} (disk : DiskGhosts D) (keeper : KeeperGhosts K) (limits : Limits) (old now : Served D K) (out_old out left_old left : Option (List ℕ)) (taken : ℕ) where
-  pub begins : now ≡ old → out ≡ out_old → left ≡ left_old → taken ≡ 0 → Progress disk keeper limits old now out_old out left_old left taken
+module _ {D K : Type 0} (disk : DiskGhosts D) (limits : Limits) (old now : Served D K) (out_old out left_old left : Option (List ℕ)) (taken : ℕ) where
+  pub begins : now ≡ old → out ≡ out_old → left ≡ left_old → taken ≡ 0 → Progress disk limits old now out_old out left_old left taken
   begins same quiet is zero = record {
     text = [];
     is_taken = untaken left_old left is;
     counted = sym zero;
-    answers = λ start first all. subst (λ (x : Served D K). IsAnswered disk keeper limits x first out start []) (sym same) (subst (λ o. IsAnswered disk keeper limits old first o start []) (sym quiet) all);
+    answers = λ start first all. subst (λ (x : Served D K). IsAnswered disk limits x first out start []) (sym same) (subst (λ o. IsAnswered disk limits old first o start []) (sym quiet) all);
   }
 
-  pub goes_on : (after : Served D K) (out_after left_after : Option (List ℕ)) (count : ℕ) → Progress disk keeper limits old now out_old out left_old left taken → Takes disk keeper limits now after out out_after left left_after count → Progress disk keeper limits old after out_old out_after left_old left_after (taken + count)
+  pub goes_on : (after : Served D K) (out_after left_after : Option (List ℕ)) (count : ℕ) → Progress disk limits old now out_old out left_old left taken → Takes disk limits now after out out_after left left_after count → Progress disk limits old after out_old out_after left_old left_after (taken + count)
   goes_on after out_after left_after count p t = record {
     text = p.text ++ t.piece;
     is_taken = taken_more left_old left left_after p.text t.piece p.is_taken t.is_taken;
@@ -100,7 +99,7 @@ module _ {D K : Type 0} (disk : DiskGhosts D) (keeper : KeeperGhosts K) (limits 
   }
 
   -- at the end of the source the last line is answered too
-  pub serves_all : (mid : Served D K) (out_mid : Option (List ℕ)) (after : Served D K) (out_after left_after : Option (List ℕ)) (count : ℕ) → count ≡ 0 → taken < limits.bytes → Progress disk keeper limits old now out_old out left_old left taken → Takes disk keeper limits now mid out out_mid left left_after count → ((start : State) (first : Option (List ℕ)) (text : List ℕ) → IsAnswered disk keeper limits mid first out_mid start text → HasAnswered disk keeper limits after.session first out_after start (pieces_of limits.line text)) → ServesAll disk keeper limits old after out_old out_after left_old left_after
+  pub serves_all : (mid : Served D K) (out_mid : Option (List ℕ)) (after : Served D K) (out_after left_after : Option (List ℕ)) (count : ℕ) → count ≡ 0 → taken < limits.bytes → Progress disk limits old now out_old out left_old left taken → Takes disk limits now mid out out_mid left left_after count → ((start : State) (first : Option (List ℕ)) (text : List ℕ) → IsAnswered disk limits mid first out_mid start text → HasAnswered disk limits after.session first out_after start (pieces_of limits.line text)) → ServesAll disk limits old after out_old out_after left_old left_after
   serves_all mid out_mid after out_after left_after count zero within p t finishes = record {
     text = p.text ++ t.piece;
     is_taken = taken_more left_old left left_after p.text t.piece p.is_taken t.is_taken;
@@ -110,7 +109,7 @@ module _ {D K : Type 0} (disk : DiskGhosts D) (keeper : KeeperGhosts K) (limits 
   }
 
   -- or it is answered in part
-  pub last_part : (mid : Served D K) (out_mid : Option (List ℕ)) (after : Served D K) (out_after left_after : Option (List ℕ)) (count : ℕ) → count ≡ 0 → taken < limits.bytes → Progress disk keeper limits old now out_old out left_old left taken → Takes disk keeper limits now mid out out_mid left left_after count → ((start : State) (first : Option (List ℕ)) (text : List ℕ) → IsAnswered disk keeper limits mid first out_mid start text → HasStopped disk keeper limits after.session.store first out_after start (pieces_of limits.line text)) → ServesPart disk keeper limits old after out_old out_after left_old left_after
+  pub last_part : (mid : Served D K) (out_mid : Option (List ℕ)) (after : Served D K) (out_after left_after : Option (List ℕ)) (count : ℕ) → count ≡ 0 → taken < limits.bytes → Progress disk limits old now out_old out left_old left taken → Takes disk limits now mid out out_mid left left_after count → ((start : State) (first : Option (List ℕ)) (text : List ℕ) → IsAnswered disk limits mid first out_mid start text → HasStopped disk limits after.session.store first out_after start (pieces_of limits.line text)) → ServesPart disk limits old after out_old out_after left_old left_after
   last_part mid out_mid after out_after left_after count zero within p t finishes = record {
     text = p.text ++ t.piece;
     is_taken = taken_more left_old left left_after p.text t.piece p.is_taken t.is_taken;
@@ -121,7 +120,7 @@ module _ {D K : Type 0} (disk : DiskGhosts D) (keeper : KeeperGhosts K) (limits 
   }
 
   -- a piece was taken whose lines are answered in part
-  pub piece_part : (room : ℕ) (after : Served D K) (out_after left_after : Option (List ℕ)) → taken + room ≤ limits.bytes → Progress disk keeper limits old now out_old out left_old left taken → TakesPart disk keeper limits room now after out out_after left left_after → ServesPart disk keeper limits old after out_old out_after left_old left_after
+  pub piece_part : (room : ℕ) (after : Served D K) (out_after left_after : Option (List ℕ)) → taken + room ≤ limits.bytes → Progress disk limits old now out_old out left_old left taken → TakesPart disk limits room now after out out_after left left_after → ServesPart disk limits old after out_old out_after left_old left_after
   piece_part room after out_after left_after within p t = record {
     text = p.text ++ t.piece;
     is_taken = taken_more left_old left left_after p.text t.piece p.is_taken t.is_taken;
@@ -132,18 +131,18 @@ module _ {D K : Type 0} (disk : DiskGhosts D) (keeper : KeeperGhosts K) (limits 
   }
 
   -- between two takes
-  pub serves_ended : (after : Served D K) (out_after left_after : Option (List ℕ)) → after ≡ now → out_after ≡ out → left_after ≡ left → taken ≤ limits.bytes → IsServed keeper limits now → (next_cut now.cut).0 ≡ None → Progress disk keeper limits old now out_old out left_old left taken → ServesEnded disk keeper limits old after out_old out_after left_old left_after
+  pub serves_ended : (after : Served D K) (out_after left_after : Option (List ℕ)) → after ≡ now → out_after ≡ out → left_after ≡ left → taken ≤ limits.bytes → IsServed limits now → (next_cut now.cut).0 ≡ None → Progress disk limits old now out_old out left_old left taken → ServesEnded disk limits old after out_old out_after left_old left_after
   serves_ended after out_after left_after same quiet is within sound none p = record {
     text = p.text;
     is_taken = subst (λ o. IsTaken left_old p.text o) (sym is) p.is_taken;
     within = omega (arith, p.counted);
     answers = λ start first all.
-        subst (λ (x : Served D K). HasAnswered disk keeper limits x.session first out_after start (ended_lines limits.line p.text)) (sym same)
-        (subst (λ o. HasAnswered disk keeper limits now.session first o start (ended_lines limits.line p.text)) (sym quiet)
-        (all_ended disk keeper limits now first out start p.text sound none (p.answers start first all)));
+        subst (λ (x : Served D K). HasAnswered disk limits x.session first out_after start (ended_lines limits.line p.text)) (sym same)
+        (subst (λ o. HasAnswered disk limits now.session first o start (ended_lines limits.line p.text)) (sym quiet)
+        (all_ended disk limits now first out start p.text sound none (p.answers start first all)));
   }
 
-  pub ended_part : (after : Served D K) (out_after left_after : Option (List ℕ)) → after ≡ now → out_after ≡ out → left_after ≡ left → taken ≤ limits.bytes → Progress disk keeper limits old now out_old out left_old left taken → ServesPart disk keeper limits old after out_old out_after left_old left_after
+  pub ended_part : (after : Served D K) (out_after left_after : Option (List ℕ)) → after ≡ now → out_after ≡ out → left_after ≡ left → taken ≤ limits.bytes → Progress disk limits old now out_old out left_old left taken → ServesPart disk limits old after out_old out_after left_old left_after
   ended_part after out_after left_after same quiet is within p = record {
     text = p.text;
     is_taken = subst (λ o. IsTaken left_old p.text o) (sym is) p.is_taken;
@@ -151,7 +150,7 @@ module _ {D K : Type 0} (disk : DiskGhosts D) (keeper : KeeperGhosts K) (limits 
     lines = ended_lines limits.line (p.text ++ []);
     due = inl (ap (ended_lines limits.line) (append-nil p.text));
     answers = λ start first all.
-        stops_before disk keeper limits now after.session.store first out out_after start p.text [] (ap (λ (x : Served D K). x.session.store) same) quiet (p.answers start first all);
+        stops_before disk limits now after.session.store first out out_after start p.text [] (ap (λ (x : Served D K). x.session.store) same) quiet (p.answers start first all);
   }
 
 -- how a link ends whose last line was worked on

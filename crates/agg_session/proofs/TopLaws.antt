@@ -1,5 +1,5 @@
 -- Laws of a run from its first byte.
-use Rattle.std.proofs.Common.{◌≡◌, ◌⊎◌, ◌↔◌, inl, inr, Result, Ok, Err, ℕ, ◌+◌, ◌<◌, ◌≤◌, ◌^◌, ◌*◌, List, [], ◌++◌, map, length, All, Contains, Option, Some, None, IfSome, IsSomeAnd, append-nil, refl, ap, subst, sym, ◌∙◌, arith}
+use Rattle.std.proofs.Common.{◌≡◌, ◌⊎◌, ◌↔◌, inl, inr, Result, Ok, Err, ℕ, ◌+◌, ◌<◌, ◌≤◌, ◌^◌, ◌*◌, List, [], ◌++◌, map, length, All, Contains, Option, Some, None, IfSome, IsSomeAnd, append-nil, refl, ap, subst, sym, ◌∙◌, arith, zero, suc, le_of_mul-le-mul_right}
 use Rattle.std.specs.FinMap.{empty, get, get-empty}
 use Rattle.std.specs.Ordering.{nat_cmp}
 use Rattle.std.specs.Cmp.Lexicographic.{slice_cmp}
@@ -7,15 +7,13 @@ use Rattle.std.specs.Option.{ForSome}
 use Rattle.std.proofs.lemmas.List.Elements.{All-nil}
 use Rattle.agg_outside.specs.Files.{Files}
 use Rattle.agg_outside.specs.Rows.{Held}
+use Rattle.agg_outside.specs.declared.rows.Row.{Row}
 use Rattle.agg_outside.specs.declared.disk.Disk.{Ghosts as DiskGhosts}
-use Rattle.agg_outside.specs.declared.keeper.Keeper.{Ghosts as KeeperGhosts}
-use Rattle.agg_model.specs.declared.change.Change.{Change}
 use Rattle.agg_model.specs.Arranged.{arranged}
-use Rattle.agg_model.specs.ChangeList.{ChangeList}
-use Rattle.agg_model.specs.Batch.{IsChange}
+use Rattle.agg_model.specs.ChangeList.{ChangeList, IsChangeList}
+use Rattle.agg_core.specs.Names.{single_steps}
 use Rattle.agg_core.specs.Files.{HasFile, HasExactly, KeepsNamed, Covers, SameOutside, temporary_of}
 use Rattle.agg_core.proofs.Kept.{covers}
-use Rattle.agg_core.proofs.Written.{written-none}
 use Rattle.command_words.specs.CommandWords.{command_of}
 use Rattle.command_words.specs.declared.words.WordsError.{WordsError}
 use Rattle.command_words.specs.declared.words.WordsError.TheVariants as words
@@ -24,12 +22,11 @@ use Rattle.command_words.specs.declared.words.Command.TheVariants.{Run}
 use Rattle.line_words.specs.LineCut.{Uncut, Piece, next_cut, pieces_of}
 use Rattle.merge_ranges.specs.declared.name.FileName.{FileName}
 use Rattle.merge_ranges.specs.Name.{spelled}
-use Rattle.plain_state.specs.declared.store.Store.{Store}
-use Rattle.plain_state.specs.Canonical.{held_names}
-use Rattle.plain_state.specs.Rows.{rows_of, held_for}
-use Rattle.plain_state.specs.Store.{Holds, Keeps, Goes, steps_held}
-use Rattle.plain_state.proofs.GoingLaws.{held_small, has_rows, goes-trans}
-use Rattle.plain_state.proofs.StoreLaws.{kept}
+use Rattle.merge_ranges.specs.CanonicalNames.{names_over}
+use Rattle.state_store.specs.declared.store.Store.{Store}
+use Rattle.group_files.specs.NewFiles.{names_for}
+use Rattle.state_store.specs.Store.{IsStore, Holds, Keeps, HasView, ArePinned, Goes, HasNoFile, steps_held}
+use Rattle.agg_session.proofs.StoreLaws.{goes-trans}
 use Rattle.agg_session.specs.declared.link.Link.{Link}
 use Rattle.agg_session.specs.declared.limits.Limits.{Limits}
 use Rattle.agg_session.specs.declared.served.Served.{Served}
@@ -37,9 +34,12 @@ use Rattle.agg_session.specs.declared.ends.LinkEnd.{LinkEnd}
 use Rattle.agg_session.specs.declared.ends.LinkEnd.TheVariants as ends
 use Rattle.agg_session.specs.declared.status.Status.{Status}
 use Rattle.agg_session.specs.declared.status.Status.TheVariants as status
-use Rattle.agg_session.specs.Links.{first_link, opened_as}
-use Rattle.agg_session.specs.Running.{IsView}
-use Rattle.agg_session.specs.Served.{IsAnswered, ServesAll, ServesEnded, ServesPart, EndsLong}
+use Rattle.agg_session.specs.declared.link.Transaction.{Transaction}
+use Rattle.agg_session.specs.Links.{first_link, views_of, IsLink, AreSeen}
+use Rattle.agg_session.specs.Running.{StillHas}
+use Rattle.agg_model.specs.declared.change.Change.{Change}
+use Rattle.agg_model.specs.Batch.{IsChange}
+use Rattle.agg_session.specs.Served.{IsServed, IsAnswered, ServesAll, ServesEnded, ServesPart, EndsLong}
 use Rattle.agg_session.specs.State.{starting}
 use Rattle.agg_session.specs.Answer.{after, joined, replies, state_after, AreSettled, ended_lines}
 use Rattle.agg_session.specs.Statuses.{status_of_words}
@@ -56,53 +56,62 @@ no_file : (P : List ℕ → Type 0) (o : Option (List ℕ)) → o ≡ None → I
 no_file P None e = tt
 no_file P (Some b) e = cc
 
--- a disk with no file
-nothing_there : (list : ChangeList) (names : List FileName) (f : Files) → names ≡ [] → f ≡ empty → HasExactly list names f
-nothing_there list names f none is = subst (HasExactly list names) (sym is) (record {
-  stand = subst (λ (ns : List FileName). All (HasFile list empty) ns) (sym none) (All-nil (HasFile list empty));
-  only = λ name named. no_file (λ _. Contains names name) (get empty (spelled name)) (get-empty (slice_cmp nat_cmp) (spelled name));
-  no_temporary = λ name named. get-empty (slice_cmp nat_cmp) (temporary_of name);
-})
-
 nothing_kept : (list : ChangeList) (f : Files) → f ≡ empty → KeepsNamed list f
 nothing_kept list f is = subst (KeepsNamed list) (sym is) (record {
   named = λ name named. no_file _ (get empty (spelled name)) (get-empty (slice_cmp nat_cmp) (spelled name));
   temporary = λ name named. no_file _ (get empty (temporary_of name)) (get-empty (slice_cmp nat_cmp) (temporary_of name));
 })
 
--- an empty keeper has the rows of the empty list
-holds_nothing : {D K : Type 0} (disk : DiskGhosts D) (keeper : KeeperGhosts K) (store : Store D K) (size : ℕ) → 1 ≤ size → size ≤ 2 ^ 32 → keeper.held store.keeper ≡ Some empty_held → store.next ≡ 0 → store.content ≡ 0 → store.size ≡ size → store.files ≡ [] → ForSome (disk.files store.disk) (λ f. f ≡ empty) → Holds disk keeper store (empty_list size)
-unfolding rows_of arranged
-holds_nothing disk keeper store size from_one within rows next content is none nothing = record {
-  valid = record {
-    size_from_one = from_one;
-    size_within = within;
-    next_within = omega arith;
-    below_next = All-nil (λ (c : Change). c.tx < 0);
-    ascend = tt;
-    no_repeats = tt;
-    fit = All-nil IsChange;
-  };
-  rows = rows;
-  next = next;
-  content = content;
-  size = is;
-  complete = rw none (no_steps size);
-  read = λ e filed. rw none refl;
-  stand = λ f told. subst (λ n. HasExactly (empty_list size) (held_names n) f) (sym (ap length none)) (nothing_there (empty_list size) (held_names 0) f written-none (nothing f told));
-}
+-- a disk with no file has none under any name
+pub no_files : (o : Option Files) → ForSome o (λ f. f ≡ empty) → ForSome o HasNoFile
+no_files o none f told text = subst (λ (g : Files). get g text ≡ None) (sym (none f told)) (get-empty (slice_cmp nat_cmp) text)
+
+-- an empty keeper has no row, and the floor 0
+pub no_row : (o : Option Held) (h : Held) → o ≡ Some h → ForSome o (λ k. k ≡ empty_held) → IsSomeAnd o (λ k. (k.rows ≡ []) × (k.floor ≡ 0))
+no_row o h told none =
+    subst (λ (x : Option Held). IsSomeAnd x (λ k. (k.rows ≡ []) × (k.floor ≡ 0))) (sym told)
+    (ap (λ (k : Held). k.rows) (none h told), ap (λ (k : Held). k.floor) (none h told))
+
+pub no_rows : (o : Option Held) → ForSome o (λ k. k ≡ empty_held) → ForSome o (λ k. k.rows ≡ [])
+no_rows o none h told = ap (λ (k : Held). k.rows) (none h told)
+
+-- a session before its first line
+pub first_served : {D K : Type 0} (limits : Limits) (served : Served D K) → served.lines ≡ 0 → served.cut ≡ record { limit = limits.line; left = [] } → served.session.link ≡ first_link → IsStore limits.content served.session.store → served.session.store.hot.epoch ≡ 1 → IsServed limits served
+first_served limits served lines cut link stored epoch =
+    let none : served.session.link.transactions ≡ [] = ap (λ (l : Link). l.transactions) link in
+    record {
+      session = record {
+        store = stored;
+        link = subst (IsLink limits (4096 * served.session.store.size)) (sym link) (record {
+          content = refl;
+          within = omega arith;
+          pending = record {
+            ascend = tt;
+            below_far = All-nil (λ (c : Change). c.tx < 4096 * served.session.store.size);
+            fit = All-nil IsChange;
+          };
+          latest_first = All-nil (λ (c : Change). c.tx ≤ 0);
+          near = omega (arith, stored.size_from_one);
+        });
+        views = subst (λ (ts : List Transaction). All (λ (t : Transaction). HasView served.session.store t.view) ts) (sym none)
+            (All-nil (λ (t : Transaction). HasView served.session.store t.view));
+        pins = subst (λ (ts : List Transaction). ArePinned served.session.store.sets.held (views_of ts)) (sym none) (λ n. omega arith);
+      };
+      limit = ap (λ (u : Uncut). u.limit) cut;
+      opens = let same : served.session.link.opens ≡ 0 = ap (λ (l : Link). l.opens) link in omega (arith, same);
+      epoch = omega (arith, epoch);
+    }
+
+-- few steps are complete
+held_small : (list : ChangeList) (n : ℕ) → IsChangeList list → n * list.size ≤ list.next → n ≤ 4096
+held_small list n valid complete = at_most n list.size valid.size_from_one (omega (arith, complete, valid.next_within))
   where
-    no_steps : (n : ℕ) → 0 * n ≤ 0
-    no_steps n = omega arith
+    at_most : (n s : ℕ) → 1 ≤ s → n * s ≤ 4096 * s → n ≤ 4096
+    at_most n zero h k = absurd (omega (arith, h))
+    at_most n (suc s) h k = le_of_mul-le-mul_right k (omega arith)
 
--- a store as it is made
-pub holds_new : {D K : Type 0} (disk : DiskGhosts D) (keeper : KeeperGhosts K) (store : Store D K) (files_at : D) (rows_at : K) (size : ℕ) → store ≡ record { disk = files_at; keeper = rows_at; files = []; next = 0; content = 0; size = size } → 1 ≤ size → size ≤ 2 ^ 32 → keeper.held rows_at ≡ Some empty_held → ForSome (disk.files files_at) (λ f. f ≡ empty) → Holds disk keeper store (empty_list size)
-holds_new disk keeper store files_at rows_at size is from_one within rows nothing =
-    subst (λ (x : Store _ _). Holds disk keeper x (empty_list size)) (sym is)
-    (holds_nothing disk keeper (record { disk = files_at; keeper = rows_at; files = []; next = 0; content = 0; size = size }) size from_one within rows refl refl refl refl nothing)
-
-pub first_answered : {D K : Type 0} (disk : DiskGhosts D) (keeper : KeeperGhosts K) (limits : Limits) (served : Served D K) (size : ℕ) (out : Option (List ℕ)) → served.lines ≡ 0 → served.cut ≡ record { limit = limits.line; left = [] } → served.session.link ≡ first_link → Holds disk keeper served.session.store (empty_list size) → IsAnswered disk keeper limits served out out (starting (empty_list size)) []
-first_answered disk keeper limits served size out lines cut link holds =
+pub first_answered : {D K : Type 0} (disk : DiskGhosts D) (limits : Limits) (served : Served D K) (size : ℕ) (out : Option (List ℕ)) → served.lines ≡ 0 → served.cut ≡ record { limit = limits.line; left = [] } → served.session.link ≡ first_link → Holds disk served.session.store (empty_list size) → IsAnswered disk limits served out out (starting (empty_list size)) []
+first_answered disk limits served size out lines cut link holds =
     let left : [] ≡ served.cut.left = ap (λ (u : Uncut). u.left) (sym cut) in
     record {
       lines = [];
@@ -115,9 +124,9 @@ first_answered disk keeper limits served size out lines cut link holds =
             pending = ap (λ l. l.pending) link;
             current = ap (λ l. l.current) link;
             opens = ap (λ l. l.opens) link;
-            transactions = ap (λ (l : Link). map opened_as l.transactions) link;
           };
-          views = All-nil (IsView (empty_list size));
+          views = subst (λ (ts : List Transaction). AreSeen served.session.store.hot served.session.store.size ts [])
+              (sym (ap (λ (l : Link). l.transactions) link)) tt;
         };
         written = λ before told. told ∙ ap Some (sym (append-nil before));
         settled = tt;
@@ -144,61 +153,80 @@ between most left_old left ends.Disk is = absurd is
 between most left_old left ends.Keeper is = absurd is
 between most left_old left ends.Memory is = absurd is
 
--- a keeper that tells the rows of a list
-rows_told : (held : Option Held) (list : ChangeList) → held ≡ Some (held_for list.changes) → HasRowsOf held list
-rows_told held list is = subst (λ o. HasRowsOf o list) (sym is) (has_rows list)
+-- an empty keeper has the rows of the empty list
+rows_none : (held : Option Held) (size : ℕ) → held ≡ Some empty_held → HasRowsOf held (empty_list size)
+unfolding arranged
+rows_none held size is = subst (λ o. HasRowsOf o (empty_list size)) (sym is) (record {
+  rows = refl;
+  alive = All-nil (λ (row : Row). row.killed ≡ 0);
+  floor = refl;
+})
 
-module _ {D K : Type 0} (disk : DiskGhosts D) (keeper : KeeperGhosts K) (limits : Limits) (old last : Served D K) (size : ℕ) (out_old out left_old left : Option (List ℕ)) where
+-- what follows of a list that the store holds, or keeps
+pub record IsLawful {D K : Type 0} (disk : DiskGhosts D) (store : Store D K) : Type 0 where
+  pub keeps : (list : ChangeList) → Holds disk store list → Keeps disk store list
+  pub names : (list : ChangeList) → Keeps disk store list →
+      names_for store.sets.current.groups ≡ names_over (single_steps (steps_held store))
+
+module _ {D K : Type 0} (disk : DiskGhosts D) (limits : Limits) (old last : Served D K) (size : ℕ) (out_old out left_old left : Option (List ℕ)) (store : Store D K) (laws : IsLawful disk store) where
   -- the run begins with the empty list
   abbrev pub Begins : Type 0
-  Begins = IsAnswered disk keeper limits old out_old out_old (starting (empty_list size)) []
+  Begins = IsAnswered disk limits old out_old out_old (starting (empty_list size)) []
+
+  still : (list : ChangeList) → StillHas disk store list → Keeps disk store list
+  still list (inl holds) = laws.keeps list holds
+  still list (inr keeps) = keeps
 
   -- all was answered, and all complete steps were put in files
-  pub ends_whole : (store : Store D K) → ((list : ChangeList) → Holds disk keeper last.session.store list → IsSettled disk keeper store list) → Begins → ServesAll disk keeper limits old last out_old out left_old left → EndsWhole limits (empty_list size) left_old left out_old out (keeper.held store.keeper) (disk.files store.disk)
-  ends_whole store settles begins s =
+  pub ends_whole : ((list : ChangeList) → Holds disk last.session.store list → IsSettled disk store list) → Begins → ServesAll disk limits old last out_old out left_old left → EndsWhole limits (empty_list size) left_old left out_old out store.hot.told (disk.files store.disk)
+  ends_whole settles begins s =
       let all = s.answers (starting (empty_list size)) out_old begins in
       let list : ChangeList = after limits (empty_list size) s.text in
-      let settled : IsSettled disk keeper store list = settles list all.stands.list in
+      let settled : IsSettled disk store list = settles list all.stands.list in
+      let keeps : Keeps disk store list = laws.keeps list settled.holds in
       record {
         text = s.text;
         is_taken = s.is_taken;
         all = s.all;
         within = s.within;
         written = all.written;
-        rows = rows_told (keeper.held store.keeper) list settled.holds.rows;
-        stand = λ f told. subst (λ n. HasExactly list (held_names n) f) settled.all (settled.holds.stand f told);
+        rows = keeps.rows;
+        stand = λ f told.
+            subst (λ (ns : List FileName). HasExactly list ns f) (laws.names list keeps ∙ ap (λ n. names_over (single_steps n)) settled.all)
+            (settled.holds.stand f told);
       }
 
   -- what is left of the store, where keeper and disk tell
-  pub left_of : (store : Store D K) (list : ChangeList) → Keeps disk keeper store list → AreLeft (keeper.held store.keeper) (disk.files store.disk) list
-  left_of store list keeps = record { rows = keeps.rows; kept = λ f told. (keeps.stand f told).kept }
+  pub left_of : (list : ChangeList) → Keeps disk store list → AreLeft store.hot.told (disk.files store.disk) list
+  left_of list keeps = record { rows = keeps.rows; kept = λ f told. (keeps.stand f told).kept }
 
   -- and the steps that it covers
-  pub covered_by : (store : Store D K) (list : ChangeList) → Keeps disk keeper store list → ForSome (disk.files store.disk) (Covers (steps_held store))
-  covered_by store list keeps = λ f told.
-      covers list (steps_held store) f (held_small list (steps_held store) keeps.valid keeps.complete) (keeps.stand f told).held
+  pub covered_by : (list : ChangeList) → Keeps disk store list → ForSome (disk.files store.disk) (Covers (steps_held store))
+  covered_by list keeps = λ f told.
+      covers list (steps_held store) f (held_small list (steps_held store) keeps.valid keeps.complete)
+      (subst (All (HasFile list f)) (laws.names list keeps) (keeps.stand f told).held)
 
-  pub ends_between : (store : Store D K) → store ≡ last.session.store → Begins → ServesEnded disk keeper limits old last out_old out left_old left → EndsBetween limits (empty_list size) left_old left out_old out (keeper.held store.keeper) (disk.files store.disk)
-  ends_between store same begins s =
+  pub ends_between : store ≡ last.session.store → Begins → ServesEnded disk limits old last out_old out left_old left → EndsBetween limits (empty_list size) left_old left out_old out store.hot.told (disk.files store.disk)
+  ends_between same begins s =
       let all = s.answers (starting (empty_list size)) out_old begins in
       let lines : List Piece = ended_lines limits.line s.text in
       let list : ChangeList = (state_after limits 1 lines (starting (empty_list size))).list in
-      let keeps : Keeps disk keeper store list = subst (λ (x : Store D K). Keeps disk keeper x list) (sym same) (kept disk keeper last.session.store list all.stands.list) in
+      let keeps : Keeps disk store list = laws.keeps list (subst (λ (x : Store D K). Holds disk x list) (sym same) all.stands.list) in
       record {
         text = s.text;
         is_taken = s.is_taken;
         within = s.within;
         written = all.written;
-        kept = left_of store list keeps;
+        kept = left_of list keeps;
         steps = steps_held store;
         settled = subst (λ (x : Store D K). AreSettled limits 1 lines (starting (empty_list size)) (steps_held x)) (sym same) all.settled;
-        covered = covered_by store list keeps;
+        covered = covered_by list keeps;
       }
 
-  pub ends_within : (store : Store D K) → store ≡ last.session.store → Begins → ServesPart disk keeper limits old last out_old out left_old left → EndsWithin limits (empty_list size) left_old left out_old out (keeper.held store.keeper) (disk.files store.disk)
-  ends_within store same begins s =
+  pub ends_within : store ≡ last.session.store → Begins → ServesPart disk limits old last out_old out left_old left → EndsWithin limits (empty_list size) left_old left out_old out store.hot.told (disk.files store.disk)
+  ends_within same begins s =
       let part = s.answers (starting (empty_list size)) out_old begins in
-      let keeps : Keeps disk keeper store part.list = subst (λ (x : Store D K). Keeps disk keeper x part.list) (sym same) part.kept in
+      let keeps : Keeps disk store part.list = still part.list (subst (λ (x : Store D K). StillHas disk x part.list) (sym same) part.kept) in
       record {
         text = s.text;
         is_taken = s.is_taken;
@@ -215,18 +243,18 @@ module _ {D K : Type 0} (disk : DiskGhosts D) (keeper : KeeperGhosts K) (limits 
           begun = part.begun;
           written = part.written;
           settled = subst (λ (x : Store D K). AreSettled limits 1 part.answered (starting (empty_list size)) (steps_held x)) (sym same) part.settled;
-          kept = left_of store part.list keeps;
+          kept = left_of part.list keeps;
         };
-        covered = covered_by store part.list keeps;
+        covered = covered_by part.list keeps;
       }
 
   -- all was answered, and not all complete steps were put in files
-  pub ends_settling : (store : Store D K) → ((list : ChangeList) → Holds disk keeper last.session.store list → Keeps disk keeper store list) → steps_held last.session.store ≤ steps_held store → Begins → ServesAll disk keeper limits old last out_old out left_old left → EndsWithin limits (empty_list size) left_old left out_old out (keeper.held store.keeper) (disk.files store.disk)
-  ends_settling store keep more begins s =
+  pub ends_settling : ((list : ChangeList) → Holds disk last.session.store list → StillHas disk store list) → steps_held last.session.store ≤ steps_held store → Begins → ServesAll disk limits old last out_old out left_old left → EndsWithin limits (empty_list size) left_old left out_old out store.hot.told (disk.files store.disk)
+  ends_settling keep more begins s =
       let all = s.answers (starting (empty_list size)) out_old begins in
       let lines : List Piece = pieces_of limits.line s.text in
       let end = state_after limits 1 lines (starting (empty_list size)) in
-      let keeps : Keeps disk keeper store end.list = keep end.list all.stands.list in
+      let keeps : Keeps disk store end.list = still end.list (keep end.list all.stands.list) in
       record {
         text = s.text;
         is_taken = s.is_taken;
@@ -243,9 +271,9 @@ module _ {D K : Type 0} (disk : DiskGhosts D) (keeper : KeeperGhosts K) (limits 
           begun = (refl, refl);
           written = λ before told. all.written before told ∙ ap Some (sym (append-nil (before ++ joined (replies limits 1 lines (starting (empty_list size))))));
           settled = settled-more limits 1 lines (starting (empty_list size)) (steps_held last.session.store) (steps_held store) more all.settled;
-          kept = left_of store end.list keeps;
+          kept = left_of end.list keeps;
         };
-        covered = covered_by store end.list keeps;
+        covered = covered_by end.list keeps;
       }
     where
       below : {a b : ℕ} → a < b → a ≤ b
@@ -253,7 +281,6 @@ module _ {D K : Type 0} (disk : DiskGhosts D) (keeper : KeeperGhosts K) (limits 
 
 -- a run whose words couldn't be read: nothing was taken, and nothing written
 pub ends_unread : (limits : Limits) (size : ℕ) (left out : Option (List ℕ)) (held : Option Held) (files : Option Files) → held ≡ Some empty_held → ForSome files (λ f. f ≡ empty) → EndsWithin limits (empty_list size) left left out out held files
-unfolding rows_of arranged
 ends_unread limits size left out held files rows nothing = record {
   text = [];
   is_taken = untaken left left refl;
@@ -270,7 +297,7 @@ ends_unread limits size left out held files rows nothing = record {
     begun = not_begun limits 1 (ended_lines limits.line []) (starting (empty_list size));
     written = λ before told. told ∙ ap Some (sym (append-nil before) ∙ sym (append-nil (before ++ [])));
     settled = tt;
-    kept = record { rows = rows_told held (empty_list size) rows; kept = λ f told. nothing_kept (empty_list size) f (nothing f told) };
+    kept = record { rows = rows_none held size rows; kept = λ f told. nothing_kept (empty_list size) f (nothing f told) };
   };
   covered = λ f told e k step built below. absurd (none_below step below);
 }
@@ -281,15 +308,15 @@ ends_unread limits size left out held files rows nothing = record {
 -- ---- what the run hands back
 
 -- what is told of the store is told of its parts
-pub parted : {D K : Type 0} (disk : DiskGhosts D) (keeper : KeeperGhosts K) (store : Store D K) (files_at : D) (rows_at : K) (P : Option Held → Option Files → Type 0) → files_at ≡ store.disk → rows_at ≡ store.keeper → P (keeper.held store.keeper) (disk.files store.disk) → P (keeper.held rows_at) (disk.files files_at)
-parted disk keeper store files_at rows_at P files_are rows_are h =
-    subst (λ k. P (keeper.held k) (disk.files files_at)) (sym rows_are) (subst (λ d. P (keeper.held store.keeper) (disk.files d)) (sym files_are) h)
+pub parted : {D K : Type 0} (disk : DiskGhosts D) (store : Store D K) (files_at : D) (held_at : Option Held) (P : Option Held → Option Files → Type 0) → files_at ≡ store.disk → held_at ≡ store.hot.told → P store.hot.told (disk.files store.disk) → P held_at (disk.files files_at)
+parted disk store files_at held_at P files_are rows_are h =
+    subst (λ held. P held (disk.files files_at)) (sym rows_are) (subst (λ d. P store.hot.told (disk.files d)) (sym files_are) h)
 
 -- names outside the grammar
-pub outside_through : {D K : Type 0} (disk : DiskGhosts D) (keeper : KeeperGhosts K) (first mid last : Store D K) (files_at after_at : D) → first.disk ≡ files_at → after_at ≡ last.disk → Goes disk keeper first mid → Goes disk keeper mid last → SameOutside (disk.files files_at) (disk.files after_at)
-outside_through disk keeper first mid last files_at after_at was is one two =
+pub outside_through : {D K : Type 0} (disk : DiskGhosts D) (first mid last : Store D K) (files_at after_at : D) → first.disk ≡ files_at → after_at ≡ last.disk → Goes disk first mid → Goes disk mid last → SameOutside (disk.files files_at) (disk.files after_at)
+outside_through disk first mid last files_at after_at was is one two =
     subst (λ d. SameOutside (disk.files files_at) (disk.files d)) (sym is)
-    (subst (λ d. SameOutside (disk.files d) (disk.files last.disk)) was (goes-trans disk keeper first mid last one two).outside)
+    (subst (λ d. SameOutside (disk.files d) (disk.files last.disk)) was (goes-trans disk first mid last one two).outside)
 
 -- whether a link was read to its end
 pub is_done : (end : LinkEnd) → (end ≡ ends.Done) ⊎ (end ≡ ends.Done → ⊥)

@@ -23,7 +23,7 @@ line_refusal number errors.Memory = says.ErrSyntax number
 
 -- the line of this number, as it was read
 abbrev pub read_outcome : Limits → ℕ → Result Request LineError → State → Outcome
-read_outcome limits number (Ok request) s = outcome limits number request s
+read_outcome limits number (Ok request) s = outcome limits request s
 read_outcome limits number (Err error) s = replied s (line_refusal number error)
 
 -- the state after a line, and the text of its reply; and how many first steps are in files from then on

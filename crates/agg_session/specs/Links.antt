@@ -1,11 +1,15 @@
 -- When a link's fields are in order, and which state they stand for.
-use Rattle.std.specs.Prelude.{◌≡◌, ℕ, ◌<◌, ◌≤◌, List, [], ◌∷◌, map, length, Option, Some, None, unwrap_or, slice_get}
+use Rattle.std.specs.Prelude.{◌≡◌, ℕ, ◌<◌, ◌≤◌, List, [], ◌∷◌, ◌++◌, map, length, Option, Some, None, unwrap_or, slice_get}
 use Rattle.std.specs.Prelude.{remove, ◌==◌, if◌then◌else◌, All}
 use Rattle.agg_model.specs.Batch.{IsBatch, content_of}
 use Rattle.agg_model.specs.declared.change.Change.{Change}
 use Rattle.agg_session.specs.declared.limits.Limits.{Limits}
 use Rattle.agg_session.specs.declared.link.Link.{Link}
 use Rattle.agg_session.specs.declared.link.Transaction.{Transaction}
+use Rattle.row_epochs.specs.Versions.{Versions}
+use Rattle.state_store.specs.declared.view.View.{View}
+use Rattle.state_store.specs.declared.store.Store.{Store}
+use Rattle.state_store.specs.Store.{Sees, set_of}
 use Rattle.agg_session.specs.State.{State, Opening}
 
 -- with numbers below far
@@ -36,20 +40,33 @@ pub record IsPlaceOf (number : ℕ) (ts : List Transaction) (i : ℕ) : Type 0 w
   pub there : open_of number ts ≡ slice_get ts i
   pub rest : transactions_without number ts ≡ remove ts i
 
--- an open transaction, apart from what it keeps of the store
-pub record Opened : Type 0 where
-  pub number : ℕ
-  pub next : ℕ
+-- what the open transactions keep of the store
+abbrev pub views_of : List Transaction → List View
+views_of transactions = map (λ t. t.view) transactions
 
-abbrev pub opened_as : Transaction → Opened
-opened_as t = record { number = t.number; next = t.view.next }
+-- A transaction of this number is added, which reads the groups that are visible now, at the present epoch and below
+-- the next number.
+pub record OpensNow {D K : Type 0} (store : Store D K) (number : ℕ) (before after : List Transaction) : Type 0 where
+  pub view : View
+  pub next : view.next ≡ store.next
+  pub epoch : view.epoch ≡ store.hot.epoch
+  pub set : set_of view ≡ store.sets.current
+  pub added : after ≡ before ++ record { number = number; view = view } ∷ []
 
-abbrev pub opened_of : Opening → Opened
-opened_of o = record { number = o.number; next = o.list.next }
-
--- the link has what the state has beside the list
+-- the link has what the state has beside the list and what the transactions read
 pub record LinkStands (link : Link) (s : State) : Type 0 where
   pub pending : link.pending ≡ s.pending
   pub current : link.current ≡ s.current
   pub opens : link.opens ≡ s.opens
-  pub transactions : map opened_as link.transactions ≡ map opened_of s.transactions
+
+-- the transaction has the number of its opening, and sees the list of it
+pub record IsSeen (hot : Versions) (size : ℕ) (t : Transaction) (o : Opening) : Type 0 where
+  pub number : t.number ≡ o.number
+  pub sees : Sees hot size t.view o.list
+
+-- each open transaction has its opening, in the same order
+abbrev pub AreSeen : Versions → ℕ → List Transaction → List Opening → Type 0
+AreSeen hot size [] [] = Unit {0}
+AreSeen hot size [] (o ∷ os) = ⊥
+AreSeen hot size (t ∷ ts) [] = ⊥
+AreSeen hot size (t ∷ ts) (o ∷ os) = IsSeen hot size t o × AreSeen hot size ts os

@@ -12,34 +12,34 @@ use Rattle.agg_session.specs.Served as link
 use Rattle.agg_session.specs.Top as run
 
 -- `count` bytes were taken, and all lines are answered that now have their line feed
-abbrev pub TakesOver : {D K I O : Type 0} → DiskGhosts D → KeeperGhosts K → SourceGhosts I → SinkGhosts O →
+abbrev pub TakesOver : {D K I O : Type 0} → DiskGhosts D → SourceGhosts I → SinkGhosts O →
     Limits → Served D K → Served D K → I → I → O → O → ℕ → Type 0
-TakesOver disk keeper source sink limits old now i_old i o_old o count =
-    link.Takes disk keeper limits old now (sink.bytes o_old) (sink.bytes o) (source.left i_old) (source.left i) count
+TakesOver disk source sink limits old now i_old i o_old o count =
+    link.Takes disk limits old now (sink.bytes o_old) (sink.bytes o) (source.left i_old) (source.left i) count
 
 -- at most `room` bytes were taken, and the lines are answered in part that now have their line feed
-abbrev pub TakesPartOver : {D K I O : Type 0} → DiskGhosts D → KeeperGhosts K → SourceGhosts I → SinkGhosts O →
+abbrev pub TakesPartOver : {D K I O : Type 0} → DiskGhosts D → SourceGhosts I → SinkGhosts O →
     Limits → ℕ → Served D K → Served D K → I → I → O → O → Type 0
-TakesPartOver disk keeper source sink limits room old now i_old i o_old o =
-    link.TakesPart disk keeper limits room old now (sink.bytes o_old) (sink.bytes o) (source.left i_old) (source.left i)
+TakesPartOver disk source sink limits room old now i_old i o_old o =
+    link.TakesPart disk limits room old now (sink.bytes o_old) (sink.bytes o) (source.left i_old) (source.left i)
 
 -- the source was taken to its end, and all lines of it are answered
-abbrev pub ServesAllOver : {D K I O : Type 0} → DiskGhosts D → KeeperGhosts K → SourceGhosts I → SinkGhosts O →
+abbrev pub ServesAllOver : {D K I O : Type 0} → DiskGhosts D → SourceGhosts I → SinkGhosts O →
     Limits → Served D K → Served D K → I → I → O → O → Type 0
-ServesAllOver disk keeper source sink limits old now i_old i o_old o =
-    link.ServesAll disk keeper limits old now (sink.bytes o_old) (sink.bytes o) (source.left i_old) (source.left i)
+ServesAllOver disk source sink limits old now i_old i o_old o =
+    link.ServesAll disk limits old now (sink.bytes o_old) (sink.bytes o) (source.left i_old) (source.left i)
 
 -- the source was taken in part, and all lines that have their line feed are answered
-abbrev pub ServesEndedOver : {D K I O : Type 0} → DiskGhosts D → KeeperGhosts K → SourceGhosts I → SinkGhosts O →
+abbrev pub ServesEndedOver : {D K I O : Type 0} → DiskGhosts D → SourceGhosts I → SinkGhosts O →
     Limits → Served D K → Served D K → I → I → O → O → Type 0
-ServesEndedOver disk keeper source sink limits old now i_old i o_old o =
-    link.ServesEnded disk keeper limits old now (sink.bytes o_old) (sink.bytes o) (source.left i_old) (source.left i)
+ServesEndedOver disk source sink limits old now i_old i o_old o =
+    link.ServesEnded disk limits old now (sink.bytes o_old) (sink.bytes o) (source.left i_old) (source.left i)
 
 -- the source was taken in part, and its lines are answered in part
-abbrev pub ServesPartOver : {D K I O : Type 0} → DiskGhosts D → KeeperGhosts K → SourceGhosts I → SinkGhosts O →
+abbrev pub ServesPartOver : {D K I O : Type 0} → DiskGhosts D → SourceGhosts I → SinkGhosts O →
     Limits → Served D K → Served D K → I → I → O → O → Type 0
-ServesPartOver disk keeper source sink limits old now i_old i o_old o =
-    link.ServesPart disk keeper limits old now (sink.bytes o_old) (sink.bytes o) (source.left i_old) (source.left i)
+ServesPartOver disk source sink limits old now i_old i o_old o =
+    link.ServesPart disk limits old now (sink.bytes o_old) (sink.bytes o) (source.left i_old) (source.left i)
 
 -- a run over the list took its source to the end
 abbrev pub EndsWholeOver : {D K I O : Type 0} → DiskGhosts D → KeeperGhosts K → SourceGhosts I → SinkGhosts O →

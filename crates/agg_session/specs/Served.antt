@@ -2,46 +2,47 @@
 use Rattle.std.specs.Prelude.{◌≡◌, ◌⊎◌, ℕ, ◌+◌, ◌<◌, ◌≤◌, List, [], ◌++◌, length, IsSomeAnd, Option, Some}
 use Rattle.std.specs.Option.{ForSome}
 use Rattle.agg_outside.specs.declared.disk.Disk.{Ghosts as DiskGhosts}
-use Rattle.agg_outside.specs.declared.keeper.Keeper.{Ghosts as KeeperGhosts}
 use Rattle.line_words.specs.LineCut.{Piece, pieces_of}
-use Rattle.plain_state.specs.declared.store.Store.{Store}
-use Rattle.plain_state.specs.Store.{Keeps, steps_held}
+use Rattle.state_store.specs.declared.store.Store.{Store}
+use Rattle.state_store.specs.Store.{steps_held}
 use Rattle.agg_session.specs.declared.limits.Limits.{Limits}
 use Rattle.agg_session.specs.declared.served.Served.{Served}
 use Rattle.agg_session.specs.declared.session.Session.{Session}
 use Rattle.agg_session.specs.State.{State}
 use Rattle.agg_session.specs.Answer.{replies, state_after, AreSettled, joined, ended_lines, IsPartway}
-use Rattle.agg_session.specs.Running.{IsSession, Stands}
+use Rattle.agg_session.specs.Running.{IsSession, Stands, StillHas}
 
--- fewer transactions were opened than lines were answered, so that their numbers can be counted
-pub record IsServed {D K : Type 0} (keeper : KeeperGhosts K) (limits : Limits) (served : Served D K) : Type 0 where
-  pub session : IsSession keeper limits served.session
+-- Fewer transactions were opened than lines were answered, so that their numbers can be counted, and the epoch is
+-- one above the lines at most.
+pub record IsServed {D K : Type 0} (limits : Limits) (served : Served D K) : Type 0 where
+  pub session : IsSession limits served.session
   pub limit : served.cut.limit ≡ limits.line
   pub opens : served.session.link.opens ≤ served.lines
+  pub epoch : served.session.store.hot.epoch ≤ served.lines + 1
 
 -- The lines are answered from a start: their replies stand in the sink behind what it had at first,
 -- where it tells, the session stands for the state after them, and the steps that they say are in files.
-pub record HasAnswered {D K : Type 0} (disk : DiskGhosts D) (keeper : KeeperGhosts K) (limits : Limits)
+pub record HasAnswered {D K : Type 0} (disk : DiskGhosts D) (limits : Limits)
     (session : Session D K) (first out : Option (List ℕ)) (start : State) (lines : List Piece) : Type 0 where
-  pub stands : Stands disk keeper session (state_after limits 1 lines start)
+  pub stands : Stands disk session (state_after limits 1 lines start)
   pub written : ForSome first (λ before. out ≡ Some (before ++ joined (replies limits 1 lines start)))
   pub settled : AreSettled limits 1 lines start (steps_held session.store)
 
 -- Of a text that comes in pieces these lines are answered, and its others, however it goes on, are
 -- those of what the cut has left.
-pub record IsAnswered {D K : Type 0} (disk : DiskGhosts D) (keeper : KeeperGhosts K) (limits : Limits)
+pub record IsAnswered {D K : Type 0} (disk : DiskGhosts D) (limits : Limits)
     (served : Served D K) (first out : Option (List ℕ)) (start : State) (text : List ℕ) : Type 0 where
   pub lines : List Piece
   pub cuts : (later : List ℕ) →
       pieces_of limits.line (text ++ later) ≡ lines ++ pieces_of limits.line (served.cut.left ++ later)
   pub count : served.lines ≡ length lines
-  pub all : HasAnswered disk keeper limits served.session first out start lines
+  pub all : HasAnswered disk limits served.session first out start lines
 
 -- The lines are answered up to somewhere, and the store is left with the list that was come to.
-abbrev pub HasStopped : {D K : Type 0} → DiskGhosts D → KeeperGhosts K → Limits → Store D K → Option (List ℕ) →
+abbrev pub HasStopped : {D K : Type 0} → DiskGhosts D → Limits → Store D K → Option (List ℕ) →
     Option (List ℕ) → State → List Piece → Type 0
-HasStopped disk keeper limits store first out start lines =
-    IsPartway limits start lines first out (steps_held store) (Keeps disk keeper store)
+HasStopped disk limits store first out start lines =
+    IsPartway limits start lines first out (steps_held store) (StillHas disk store)
 
 -- the text is what was taken of a source, where it tells
 abbrev pub IsTaken : Option (List ℕ) → List ℕ → Option (List ℕ) → Type 0
@@ -58,65 +59,65 @@ AreDue limit text before after lines =
 
 -- `count` bytes came of a source, none only where none is left, and all lines are answered that now have
 -- their line feed.
-pub record Takes {D K : Type 0} (disk : DiskGhosts D) (keeper : KeeperGhosts K) (limits : Limits) (old now : Served D K)
+pub record Takes {D K : Type 0} (disk : DiskGhosts D) (limits : Limits) (old now : Served D K)
     (out_old out : Option (List ℕ)) (left_old left : Option (List ℕ)) (count : ℕ) : Type 0 where
   pub piece : List ℕ
   pub counted : length piece ≡ count
   pub is_taken : IsTaken left_old piece left
   pub none : count ≡ 0 → IsAtEnd left_old left
   pub answers : (start : State) (first : Option (List ℕ)) (text : List ℕ) →
-      IsAnswered disk keeper limits old first out_old start text →
-      IsAnswered disk keeper limits now first out start (text ++ piece)
+      IsAnswered disk limits old first out_old start text →
+      IsAnswered disk limits now first out start (text ++ piece)
 
 -- At most `room` bytes came of a source, and the lines are answered in part that now have their line
 -- feed.
-pub record TakesPart {D K : Type 0} (disk : DiskGhosts D) (keeper : KeeperGhosts K) (limits : Limits) (room : ℕ)
+pub record TakesPart {D K : Type 0} (disk : DiskGhosts D) (limits : Limits) (room : ℕ)
     (old now : Served D K) (out_old out : Option (List ℕ)) (left_old left : Option (List ℕ)) : Type 0 where
   pub piece : List ℕ
   pub within : length piece ≤ room
   pub is_taken : IsTaken left_old piece left
   pub answers : (start : State) (first : Option (List ℕ)) (text : List ℕ) →
-      IsAnswered disk keeper limits old first out_old start text →
-      HasStopped disk keeper limits now.session.store first out start (ended_lines limits.line (text ++ piece))
+      IsAnswered disk limits old first out_old start text →
+      HasStopped disk limits now.session.store first out start (ended_lines limits.line (text ++ piece))
 
 -- A source was taken up to here, and all lines that have their line feed are answered.
-pub record Progress {D K : Type 0} (disk : DiskGhosts D) (keeper : KeeperGhosts K) (limits : Limits)
+pub record Progress {D K : Type 0} (disk : DiskGhosts D) (limits : Limits)
     (old now : Served D K) (out_old out : Option (List ℕ)) (left_old left : Option (List ℕ)) (taken : ℕ) : Type 0 where
   pub text : List ℕ
   pub is_taken : IsTaken left_old text left
   pub counted : length text ≡ taken
-  pub answers : (start : State) (first : Option (List ℕ)) → IsAnswered disk keeper limits old first out_old start [] →
-      IsAnswered disk keeper limits now first out start text
+  pub answers : (start : State) (first : Option (List ℕ)) → IsAnswered disk limits old first out_old start [] →
+      IsAnswered disk limits now first out start text
 
 -- A source was taken to its end, and all lines of it are answered.
-pub record ServesAll {D K : Type 0} (disk : DiskGhosts D) (keeper : KeeperGhosts K) (limits : Limits)
+pub record ServesAll {D K : Type 0} (disk : DiskGhosts D) (limits : Limits)
     (old now : Served D K) (out_old out : Option (List ℕ)) (left_old left : Option (List ℕ)) : Type 0 where
   pub text : List ℕ
   pub is_taken : IsTaken left_old text left
   pub all : IsAtEnd left_old left
   pub within : length text < limits.bytes
-  pub answers : (start : State) (first : Option (List ℕ)) → IsAnswered disk keeper limits old first out_old start [] →
-      HasAnswered disk keeper limits now.session first out start (pieces_of limits.line text)
+  pub answers : (start : State) (first : Option (List ℕ)) → IsAnswered disk limits old first out_old start [] →
+      HasAnswered disk limits now.session first out start (pieces_of limits.line text)
 
 -- A source was taken in part, and all lines that have their line feed are answered.
-pub record ServesEnded {D K : Type 0} (disk : DiskGhosts D) (keeper : KeeperGhosts K) (limits : Limits)
+pub record ServesEnded {D K : Type 0} (disk : DiskGhosts D) (limits : Limits)
     (old now : Served D K) (out_old out : Option (List ℕ)) (left_old left : Option (List ℕ)) : Type 0 where
   pub text : List ℕ
   pub is_taken : IsTaken left_old text left
   pub within : length text ≤ limits.bytes
-  pub answers : (start : State) (first : Option (List ℕ)) → IsAnswered disk keeper limits old first out_old start [] →
-      HasAnswered disk keeper limits now.session first out start (ended_lines limits.line text)
+  pub answers : (start : State) (first : Option (List ℕ)) → IsAnswered disk limits old first out_old start [] →
+      HasAnswered disk limits now.session first out start (ended_lines limits.line text)
 
 -- A source was taken in part, and its lines are answered in part.
-pub record ServesPart {D K : Type 0} (disk : DiskGhosts D) (keeper : KeeperGhosts K) (limits : Limits)
+pub record ServesPart {D K : Type 0} (disk : DiskGhosts D) (limits : Limits)
     (old now : Served D K) (out_old out : Option (List ℕ)) (left_old left : Option (List ℕ)) : Type 0 where
   pub text : List ℕ
   pub is_taken : IsTaken left_old text left
   pub within : length text ≤ limits.bytes
   pub lines : List Piece
   pub due : AreDue limits.line text left_old left lines
-  pub answers : (start : State) (first : Option (List ℕ)) → IsAnswered disk keeper limits old first out_old start [] →
-      HasStopped disk keeper limits now.session.store first out start lines
+  pub answers : (start : State) (first : Option (List ℕ)) → IsAnswered disk limits old first out_old start [] →
+      HasStopped disk limits now.session.store first out start lines
 
 -- as many bytes as may be were taken
 abbrev pub EndsLong : ℕ → List ℕ → Option (List ℕ) → Type 0

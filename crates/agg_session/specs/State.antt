@@ -1,13 +1,15 @@
 -- What a session is between two lines, and what each request makes of it.
-use Rattle.std.specs.Prelude.{ℕ, ◌+◌, ◌-◌, ◌*◌, ◌==◌, nat_lt, nat_le, if◌then◌else◌, List, [], ◌∷◌}
-use Rattle.std.specs.Prelude.{◌++◌, map, length, Option, Some, None}
+use Rattle.std.specs.Prelude.{ℕ, ◌+◌, ◌-◌, ◌*◌, ◌^◌, ◌==◌, nat_lt, nat_le, if◌then◌else◌, Bool, List, [], ◌∷◌}
+use Rattle.std.specs.Prelude.{◌++◌, map, length, Option, Some, None, unwrap_or}
 use Rattle.std.specs.Option.{option_or}
 use Rattle.agg_model.specs.declared.entity.Entity.{Entity}
 use Rattle.agg_model.specs.declared.change.Act.{Act}
 use Rattle.agg_model.specs.declared.change.Act.TheVariants.{Put, Del, Mark}
 use Rattle.agg_model.specs.declared.change.Change.{Change}
 use Rattle.agg_model.specs.Batch.{content_of}
-use Rattle.agg_model.specs.ChangeList.{ChangeList, latest, next_of, grown}
+use Rattle.agg_model.specs.declared.page.PageRow.{PageRow}
+use Rattle.agg_model.specs.ChangeList.{ChangeList, latest, as_of, next_of, grown}
+use Rattle.agg_model.specs.Listed.{range, history, index, limited}
 use Rattle.agg_model.specs.Merged.{merged}
 use Rattle.merge_ranges.specs.Name.{spelled}
 use Rattle.agg_core.specs.Names.{complete_steps, written_names}
@@ -134,14 +136,49 @@ abbrev pub close_on : ℕ → Option ChangeList → State → Outcome
 close_on t None s = replied s (says.ErrTx t)
 close_on t (Some list) s = replied (record s { transactions = openings_without t s.transactions }) says.Ok
 
+-- a read of an open transaction has the reply of the list at its opening
+abbrev pub read_on : ℕ → Option ChangeList → (ChangeList → Reply) → State → Outcome
+read_on t None reply_of s = replied s (says.ErrTx t)
+read_on t (Some list) reply_of s = replied s (reply_of list)
+
 abbrev pub value_reply : Option (List ℕ) → Reply
 value_reply None = says.NoValue
 value_reply (Some v) = says.Value v
 
--- `latest T E K`: the value of the key's last change in the list at the opening
-abbrev pub latest_on : ℕ → Option ChangeList → Entity → List ℕ → State → Outcome
-latest_on t None e k s = replied s (says.ErrTx t)
-latest_on t (Some list) e k s = replied s (value_reply (latest list e k))
+abbrev pub rows_reply : List PageRow × Option (List ℕ) → Reply
+rows_reply page = says.Rows page.0 page.1
+
+abbrev pub times_reply : List ℕ × Option ℕ → Reply
+times_reply page = says.Times page.0 page.1
+
+-- `latest T E K`: the value of the key's last change
+abbrev pub latest_reply : Entity → List ℕ → ChangeList → Reply
+latest_reply e k list = value_reply (latest list e k)
+
+-- `asof T E N K`: the value of the key's last change with a number below n
+abbrev pub as_of_reply : Entity → ℕ → List ℕ → ChangeList → Reply
+as_of_reply e n k list = value_reply (as_of list e k n)
+
+-- `range T E N FROM TO LIMIT`: the keys that have a value just before n
+abbrev pub range_reply : Entity → ℕ → Option (List ℕ) → Option (List ℕ) → ℕ → ChangeList → Reply
+range_reply e n from to limit list = rows_reply (limited (λ r. r.key) limit (range list.changes e n from to))
+
+-- an open end of numbers is the first one, or the one above all
+abbrev pub first_number : Option ℕ → ℕ
+first_number a = unwrap_or a 0
+
+abbrev pub end_number : Option ℕ → ℕ
+end_number b = unwrap_or b (2 ^ 63)
+
+-- `history T E A B FROM LIMIT`: the keys that changed from a on and below b, each with its value just before a
+abbrev pub history_reply : Entity → Option ℕ → Option ℕ → Option (List ℕ) → ℕ → ChangeList → Reply
+history_reply e a b from limit list =
+    rows_reply (limited (λ r. r.key) limit (history list.changes e (first_number a) (end_number b) from))
+
+-- `index T E K A B asc LIMIT`, or with `desc`: the numbers from a on and below b at which the key changed
+abbrev pub index_reply : Entity → List ℕ → Option ℕ → Option ℕ → Bool → ℕ → ChangeList → Reply
+index_reply e k a b descends limit list =
+    times_reply (limited (λ t. t) limit (index list.changes e k (first_number a) (end_number b) descends))
 
 -- `settle`: all complete steps are in files, which are named
 abbrev pub settle_on : State → Outcome
@@ -151,22 +188,21 @@ settle_on s = record {
   settled = complete_steps s.list;
 }
 
--- a form that isn't built yet: the line is answered as one of no form
-abbrev pub not_built : ℕ → State → Outcome
-not_built number s = replied s (says.ErrSyntax number)
-
--- the outcome of a request, which the line of this number makes
-abbrev pub outcome : Limits → ℕ → Request → State → Outcome
-outcome limits number (on.Tx n) s = number_on n s
-outcome limits number (on.Put e k v) s = change_on limits s.current e k (Put v) s
-outcome limits number (on.Del e k) s = change_on limits s.current e k Del s
-outcome limits number (on.Mark e k) s = change_on limits s.current e k Mark s
-outcome limits number on.Commit s = commit_on limits s
-outcome limits number on.Open s = open_on limits s
-outcome limits number (on.Close t) s = close_on t (list_at t s.transactions) s
-outcome limits number (on.Latest t e k) s = latest_on t (list_at t s.transactions) e k s
-outcome limits number (on.Asof t e n k) s = not_built number s
-outcome limits number (on.Range t e n from to limit) s = not_built number s
-outcome limits number (on.History t e a b from limit) s = not_built number s
-outcome limits number (on.Index t e k a b descends limit) s = not_built number s
-outcome limits number on.Settle s = settle_on s
+-- the outcome of a request
+abbrev pub outcome : Limits → Request → State → Outcome
+outcome limits (on.Tx n) s = number_on n s
+outcome limits (on.Put e k v) s = change_on limits s.current e k (Put v) s
+outcome limits (on.Del e k) s = change_on limits s.current e k Del s
+outcome limits (on.Mark e k) s = change_on limits s.current e k Mark s
+outcome limits on.Commit s = commit_on limits s
+outcome limits on.Open s = open_on limits s
+outcome limits (on.Close t) s = close_on t (list_at t s.transactions) s
+outcome limits (on.Latest t e k) s = read_on t (list_at t s.transactions) (latest_reply e k) s
+outcome limits (on.Asof t e n k) s = read_on t (list_at t s.transactions) (as_of_reply e n k) s
+outcome limits (on.Range t e n from to limit) s =
+    read_on t (list_at t s.transactions) (range_reply e n from to limit) s
+outcome limits (on.History t e a b from limit) s =
+    read_on t (list_at t s.transactions) (history_reply e a b from limit) s
+outcome limits (on.Index t e k a b descends limit) s =
+    read_on t (list_at t s.transactions) (index_reply e k a b descends limit) s
+outcome limits on.Settle s = settle_on s

@@ -8,12 +8,11 @@ use Rattle.agg_core.specs.Files.{HasWritten, KeepsNamed, Covers}
 use Rattle.agg_core.specs.Rows.{HasRows}
 use Rattle.agg_core.specs.Names.{complete_steps}
 use Rattle.agg_outside.specs.declared.disk.Disk.{Ghosts as DiskGhosts}
-use Rattle.agg_outside.specs.declared.keeper.Keeper.{Ghosts as KeeperGhosts}
 use Rattle.command_words.specs.CommandWords.{command_of}
 use Rattle.command_words.specs.declared.words.Command.TheVariants.{Run}
 use Rattle.line_words.specs.LineCut.{Piece}
-use Rattle.plain_state.specs.declared.store.Store.{Store}
-use Rattle.plain_state.specs.Store.{Holds, steps_held}
+use Rattle.state_store.specs.declared.store.Store.{Store}
+use Rattle.state_store.specs.Store.{Holds, steps_held}
 use Rattle.agg_session.specs.declared.limits.Limits.{Limits}
 use Rattle.agg_session.specs.declared.status.Status.{Status}
 use Rattle.agg_session.specs.declared.status.Status.TheVariants as status
@@ -50,9 +49,8 @@ abbrev pub AsksForRun : List (List ℕ) → ℕ → Type 0
 AsksForRun words size = (workers : ℕ) × (command_of words ≡ Some (Run size workers))
 
 -- the store holds the list, and all complete steps are in files
-pub record IsSettled {D K : Type 0} (disk : DiskGhosts D) (keeper : KeeperGhosts K) (store : Store D K)
-    (list : ChangeList) : Type 0 where
-  pub holds : Holds disk keeper store list
+pub record IsSettled {D K : Type 0} (disk : DiskGhosts D) (store : Store D K) (list : ChangeList) : Type 0 where
+  pub holds : Holds disk store list
   pub all : steps_held store ≡ complete_steps list
 
 -- a keeper that tells has the list's rows

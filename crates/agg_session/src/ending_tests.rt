@@ -7,7 +7,7 @@ use crate::*;
 use agg_outside::*;
 use line_words::LineCut;
 use memory_side::*;
-use plain_state::Store;
+use state_store::Store;
 use std::alloc::Global;
 use std::process::Abort;
 use std::rt::Clock;
@@ -154,7 +154,8 @@ fn the_top_call_answers_a_whole_line_before_it_takes_more(rt: HostRuntime) -> Re
 }
 
 // How the link ends that serves the source, over a disk and a keeper that are empty.
-fn end_of_link<D: Disk, K: Keeper, I: Source, O: Sink>(
+fn end_of_link<H: Threads + Wait + Clock + Sync, D: Disk, K: Keeper, I: Source, O: Sink>(
+    rt: &H,
     alloc: Global,
     disk: D,
     keeper: K,
@@ -164,15 +165,18 @@ fn end_of_link<D: Disk, K: Keeper, I: Source, O: Sink>(
     requires { ForSome (K.held keeper) (λ h. h ≡ empty_held) }
 {
     let limits = Limits::usual();
+    let Ok(store) = Store::new(alloc, disk, keeper, 4) else {
+        return LinkEnd::Memory;
+    };
     let mut served = Served {
         cut: LineCut::new(alloc, limits.line),
         session: Session {
-            store: Store::new(alloc, disk, keeper, 4),
+            store,
             link: Link::new(alloc),
         },
         lines: 0,
     };
-    let end = serve(alloc, &limits, &mut served, source, sink);
+    let end = serve(rt, alloc, &limits, &mut served, source, sink);
     end
 }
 
@@ -183,7 +187,7 @@ fn a_link_answers_a_whole_line_before_it_takes_more(rt: HostRuntime) -> Result<(
     let keeper = empty_keeper(alloc, &[])?;
     let mut source = MemSource::new(alloc, WHOLE_LINE, &[2])?;
     let mut sink = MemSink::new(alloc, &[], &[1])?;
-    let end = end_of_link(alloc, disk, keeper, &mut source, &mut sink);
+    let end = end_of_link(&rt, alloc, disk, keeper, &mut source, &mut sink);
     assert_eq!(rt; end, LinkEnd::Sink);
     Ok(())
 }
@@ -195,7 +199,7 @@ fn a_link_whose_source_fails_leaves_the_reply(rt: HostRuntime) -> Result<(), Fai
     let keeper = empty_keeper(alloc, &[])?;
     let mut source = MemSource::new(alloc, WHOLE_LINE, &[2])?;
     let mut sink = SureSink::new(alloc, &[])?;
-    let end = end_of_link(alloc, disk, keeper, &mut source, &mut sink);
+    let end = end_of_link(&rt, alloc, disk, keeper, &mut source, &mut sink);
     assert_eq!(rt; end, LinkEnd::Source);
     assert_eq!(rt; sink.bytes(), b"ok\n".as_slice());
     Ok(())

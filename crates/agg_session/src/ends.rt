@@ -3,7 +3,7 @@ ghost use Rattle.agg_session.specs.Ends.{end_of_stop, end_of_sink};
 ghost use Rattle.agg_session.specs.declared.ends.LinkEnd.TheVariants.{Memory as wants_memory};
 
 use agg_outside::{Memory, SinkError};
-use plain_state::Stop;
+use state_store::Stop;
 
 /// How a link ended.
 #[derive(Clone, Copy, Debug, PartialEq, Eq)]
@@ -31,6 +31,8 @@ impl From<Stop> for LinkEnd {
         match stop {
             Stop::Disk => LinkEnd::Disk,
             Stop::Keeper => LinkEnd::Keeper,
+            // It never comes to this: a run takes fewer lines than there are epochs.
+            Stop::Worn => LinkEnd::Long,
             Stop::Memory => LinkEnd::Memory,
         }
     }

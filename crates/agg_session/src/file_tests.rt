@@ -58,11 +58,11 @@ fn run_over<H: Threads + Wait + Clock + Sync>(
     })
 }
 
-const ONE_STEP: &[u8] =
-    b"tx 0\nput accounts aa 01\ntx 5\nput accounts bb 02\ncommit\nsettle\nopen\nlatest 1 accounts aa\nlatest 1 accounts bb\n";
+// A step that is complete at the first commit, and one at the second.
+const TWO_STEPS: &[u8] =
+    b"tx 0\nput accounts aa 01\ntx 5\nput accounts bb 02\ncommit\ntx 8\nput accounts aa 03\ncommit\n";
 
-const ONE_STEP_REPLIES: &[u8] =
-    b"ok\nok\nok\nok\ncommitted 2 6\nfile v1-accounts.0-1.kv\nend\nopened 1 6\nvalue 01\nvalue 02\n";
+const TWO_STEPS_REPLIES: &[u8] = b"ok\nok\nok\nok\ncommitted 2 6\nok\nok\ncommitted 1 9\n";
 
 // The header, then the key and the value, each behind its length.
 const FIRST_FILE: &[u8] =
@@ -70,21 +70,6 @@ const FIRST_FILE: &[u8] =
 
 const SECOND_FILE: &[u8] =
     b"AGW1\0\0\0\x01\0\0\0\0\0\0\0\x04\0\0\0\0\0\0\0\x01\0\0\0\0\0\0\0\x02\0\0\0\0\0\0\0\x02\0\0\0\x01\xbb\0\0\0\x01\x02";
-
-// The disk has exactly the files of these names.
-fn expect_names(
-    rt: &impl Abort,
-    alloc: Global,
-    disk: &MemDisk,
-    names: &[&[u8]],
-) -> Result<(), Fail> {
-    let found = disk.files().names(alloc)?;
-    assert_eq!(rt; found.len(), names.len());
-    for (name, wanted) in found.as_slice().iter().zip(names) {
-        assert_eq!(rt; name.as_slice(), *wanted);
-    }
-    Ok(())
-}
 
 // The disk has the file with these bytes.
 fn expect_bytes(rt: &impl Abort, disk: &MemDisk, name: &[u8], bytes: &[u8]) {
@@ -95,71 +80,30 @@ fn expect_bytes(rt: &impl Abort, disk: &MemDisk, name: &[u8], bytes: &[u8]) {
     }
 }
 
+// Of the run in which this call of the disk fails there are so many files, temporary ones too.
+const FILES_LEFT: [(u64, usize); 6] = [(1, 0), (2, 1), (3, 1), (4, 2), (59, 29), (60, 30)];
+
 #[test]
-fn one_complete_step_is_kept_in_a_file(rt: HostRuntime) -> Result<(), Fail> {
-    let alloc = rt.alloc();
-    let run = run_over(&rt, alloc, 4, &[], ONE_STEP)?;
-    assert_eq!(rt; run.status, Status::Done);
-    assert_eq!(rt; run.replies.as_slice(), ONE_STEP_REPLIES);
-    expect_bytes(&rt, &run.disk, b"v1-accounts.0-1.kv", FIRST_FILE);
-    expect_names(&rt, alloc, &run.disk, &[b"v1-accounts.0-1.kv"])
-}
-
-// Another step that is complete at the end of the input.
-const TWO_STEPS: &[u8] =
-    b"tx 0\nput accounts aa 01\ntx 5\nput accounts bb 02\ncommit\nsettle\ntx 8\nput accounts aa 03\ncommit\n";
-
-const TWO_STEPS_REPLIES: &[u8] =
-    b"ok\nok\nok\nok\ncommitted 2 6\nfile v1-accounts.0-1.kv\nend\nok\nok\ncommitted 1 9\n";
-
-// Of a run over two steps in which this call of the disk fails, as much was written, and the disk has
-// these files.
-fn expect_fault<H: Abort + Threads + Wait + Clock + Sync>(
-    rt: &H,
-    alloc: Global,
-    call: u64,
-    written: usize,
-    names: &[&[u8]],
+fn a_disk_that_fails_leaves_whole_files_and_one_temporary_name(
+    rt: HostRuntime,
 ) -> Result<(), Fail> {
-    let run = run_over(rt, alloc, 4, &[call], TWO_STEPS)?;
-    assert_eq!(rt; run.status, Status::DiskFault);
-    assert_eq!(rt; run.replies.as_slice().len(), written);
-    assert!(rt; TWO_STEPS_REPLIES.starts_with(run.replies.as_slice()));
-    // The first step is settled before the third call.
-    if call > 2 {
-        expect_bytes(rt, &run.disk, b"v1-accounts.0-1.kv", FIRST_FILE);
-    }
-    expect_names(rt, alloc, &run.disk, names)
-}
-
-#[test]
-fn a_disk_that_fails_leaves_the_files_of_whole_steps(rt: HostRuntime) -> Result<(), Fail> {
     let alloc = rt.alloc();
-    let settled = 26;
-    let all = TWO_STEPS_REPLIES.len();
-    expect_fault(&rt, alloc, 1, settled, &[])?;
-    expect_fault(&rt, alloc, 2, settled, &[b"v1-accounts.0-1.kv.tmp"])?;
-    expect_fault(&rt, alloc, 3, all, &[b"v1-accounts.0-1.kv"])?;
-    expect_fault(
-        &rt,
-        alloc,
-        4,
-        all,
-        &[b"v1-accounts.0-1.kv", b"v1-accounts.1-2.kv.tmp"],
-    )
+    for (call, files) in FILES_LEFT {
+        let run = run_over(&rt, alloc, 4, &[call], TWO_STEPS)?;
+        assert_eq!(rt; run.status, Status::DiskFault);
+        assert_eq!(rt; run.replies.as_slice(), TWO_STEPS_REPLIES);
+        assert_eq!(rt; run.disk.files().len(), files);
+    }
+    Ok(())
 }
 
 #[test]
-fn the_end_of_the_input_settles_too(rt: HostRuntime) -> Result<(), Fail> {
+fn the_end_of_the_input_settles_all_complete_steps(rt: HostRuntime) -> Result<(), Fail> {
     let alloc = rt.alloc();
     let run = run_over(&rt, alloc, 4, &[], TWO_STEPS)?;
     assert_eq!(rt; run.status, Status::Done);
-    assert_eq!(rt; run.replies.as_slice(), TWO_STEPS_REPLIES);
+    assert_eq!(rt; run.disk.files().len(), 58);
+    expect_bytes(&rt, &run.disk, b"v1-accounts.0-1.kv", FIRST_FILE);
     expect_bytes(&rt, &run.disk, b"v1-accounts.1-2.kv", SECOND_FILE);
-    expect_names(
-        &rt,
-        alloc,
-        &run.disk,
-        &[b"v1-accounts.0-1.kv", b"v1-accounts.1-2.kv"],
-    )
+    Ok(())
 }

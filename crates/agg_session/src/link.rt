@@ -1,6 +1,7 @@
 //! What a link keeps between two lines, apart from the accepted changes.
-ghost use Rattle.std.specs.Prelude.{◌≡◌, ◌+◌, ◌<◌, ◌≤◌, ◌^◌, [], ◌∷◌, ◌++◌, length, is_some, Some, None, IfOk, IfSome};
-ghost use Rattle.std.specs.Prelude.{IfNone, MatchOption, OnOk, OnErr, nat_lt, nat_le, unwrap_or};
+ghost use Rattle.std.specs.Prelude.{◌≡◌, ◌+◌, ◌<◌, ◌≤◌, ◌^◌, [], ◌∷◌, ◌++◌, length, Some, None, IfOk, IfSome};
+ghost use Rattle.std.specs.Prelude.{IfNone, MatchOption, OnOk, OnErr, nat_le, unwrap_or};
+ghost use Rattle.std.specs.Option.{option_copied};
 ghost use Rattle.std.specs.Result.{result_err};
 ghost use Rattle.std.specs.Bool.{OnTrue, OnFalse};
 ghost use Rattle.agg_model.specs.Batch.{content_of, value_length};
@@ -11,12 +12,12 @@ use crate::limits::Limits;
 use agg_model::{Act, Batch, Change};
 use agg_outside::{ListOf, Memory};
 use line_words::Reply;
-use plain_state::View;
+use state_store::View;
 use std::alloc::Global;
 use std::mem;
 
 /// An open transaction.
-#[derive(Clone, Copy, Debug, PartialEq, Eq)]
+#[derive(Drop)]
 pub struct Transaction {
     /// Its number on this link, from 1.
     pub number: u64,
@@ -98,50 +99,46 @@ impl Link {
         Ok(true)
     }
 
-    /// Opens a transaction of this view; answers its number, or none where as many are open as may be.
-    pub fn open_transaction(&mut self, view: View, limits: &Limits) -> Result<Option<u64>, Memory>
+    /// Whether as many transactions are open as may be.
+    pub fn is_full(&self, limits: &Limits) -> bool
+        ensures { result ≡ nat_le limits.now.opens (length self.entry.now.transactions) }
+    {
+        limits.opens <= self.transactions.len() as u64
+    }
+
+    /// Opens a transaction of this view, and answers its number.
+    pub fn open_transaction(&mut self, view: View) -> Result<u64, Memory>
         requires { self.old.opens < 2 ^ 63 }
-        ensures could { IfOk result (λ number. is_some number ≡ nat_lt
-            (length self.old.transactions) limits.now.opens) }
-        ensures opened { IfOk result (λ number. IfSome number (λ n. (n ≡ self.old.opens + 1) ×
-            (self.new ≡ record self.old {
-              opens = self.old.opens + 1;
-              transactions = self.old.transactions ++ record { number = n; view = view } ∷ [];
-            }))) }
-        ensures unchanged { IfOk result (λ number. IfNone number (self.new ≡ self.old)) }
+        ensures number { IfOk result (λ number. number ≡ self.old.opens + 1) }
+        ensures opened { OnOk result (self.new ≡ record self.old {
+          opens = self.old.opens + 1;
+          transactions = self.old.transactions ++ record { number = self.old.opens + 1; view = view } ∷ [];
+        }) }
         ensures err { OnErr result (self.new ≡ self.old) }
     {
-        if self.transactions.len() as u64 >= limits.opens {
-            return Ok(None);
-        }
         let number = self.opens + 1;
         self.transactions.push(Transaction { number, view })?;
         self.opens = number;
-        Ok(Some(number))
+        Ok(number)
     }
 
     /// The transaction of this number; none where it isn't open.
-    pub fn transaction(&self, number: u64) -> Option<Transaction>
-        ensures { result ≡ open_of number self.entry.now.transactions }
+    pub fn transaction(&self, number: u64) -> Option<&Transaction>
+        ensures { option_copied result ≡ open_of number self.entry.now.transactions }
     {
         let i = place_of(self.transactions.as_slice(), number)?;
-        Some(self.transactions.as_slice()[i])
+        self.transactions.get(i)
     }
 
-    /// Closes a transaction, and answers whether it was open.
-    pub fn close_transaction(&mut self, number: u64) -> bool
-        ensures could { result ≡ is_some (open_of number self.old.transactions) }
-        ensures closed { OnTrue result
-            (self.new ≡ record self.old { transactions = transactions_without number self.old.transactions }) }
-        ensures unchanged { OnFalse result (self.new ≡ self.old) }
+    /// Takes out the transaction of this number; none where it isn't open.
+    pub fn close_transaction(&mut self, number: u64) -> Option<Transaction>
+        ensures is { result ≡ open_of number self.old.transactions }
+        ensures closed { IfSome result (λ _.
+            self.new ≡ record self.old { transactions = transactions_without number self.old.transactions }) }
+        ensures unchanged { IfNone result (self.new ≡ self.old) }
     {
-        match place_of(self.transactions.as_slice(), number) {
-            Some(i) => {
-                self.transactions.remove(i);
-                true
-            }
-            None => false,
-        }
+        let i = place_of(self.transactions.as_slice(), number)?;
+        Some(self.transactions.remove(i))
     }
 
     /// Takes the pending changes, and forgets the current number.

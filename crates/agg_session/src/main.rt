@@ -9,6 +9,7 @@ mod ends;
 mod file_tests;
 mod limits;
 mod link;
+mod reading;
 mod run;
 mod served;
 mod session;

@@ -6,7 +6,9 @@ ghost use Rattle.std.specs.FinMap as files;
 ghost use Rattle.agg_outside.specs.Counts.{Rose};
 ghost use Rattle.agg_model.specs.ChangeList.{ChangeList};
 ghost use Rattle.agg_core.specs.Files.{SameOutside};
-ghost use Rattle.plain_state.specs.Store.{IsStore, Holds, Keeps, Goes};
+ghost use Rattle.state_store.specs.Store.{IsStore, Holds, Goes, ArePinned};
+ghost use Rattle.agg_session.specs.Links.{views_of};
+ghost use Rattle.agg_session.specs.Running.{StillHas};
 ghost use Rattle.agg_session.specs.Served.{EndsLong, IsAtEnd, TakesAtMost, TakesFewer};
 ghost use Rattle.agg_session.specs.Top.{usual_limits, AsksForRun, IsSettled, empty_list, empty_held, status_of};
 ghost use Rattle.agg_session.specs.Top.{IsShort, IsBetween, IsCutShort};
@@ -15,15 +17,15 @@ ghost use Rattle.command_words.specs.CommandWords.{command_of};
 
 use crate::ends::LinkEnd;
 use crate::limits::Limits;
-use crate::link::Link;
+use crate::link::{Link, Transaction};
 use crate::served::Served;
 use crate::session::Session;
 use crate::status::Status;
 use crate::taking::serve;
-use agg_outside::{Disk, Doors, Gate, Keeper, Sink, Source};
+use agg_outside::{Disk, Doors, Gate, Keeper, ListOf, Sink, Source};
 use command_words::{Command, read_words};
 use line_words::LineCut;
-use plain_state::Store;
+use state_store::{NotMade, Store, store_laws};
 use std::alloc::Global;
 use std::rt::Clock;
 use std::sync::Wait;
@@ -51,31 +53,51 @@ fn status_of(end: LinkEnd) -> Status
     }
 }
 
-// Once the source was read to its end, all complete steps are put in files. Another end stays as it is.
-fn settle_at_end<D: Disk, K: Keeper>(
+// Closes the transactions that are still open.
+fn close_all<D: Disk, K: Keeper>(transactions: ListOf<Transaction>, store: &mut Store<D, K>)
+    requires { ArePinned store.old.sets.held (views_of transactions) }
+    ensures current { store.new.sets.current ≡ store.old.sets.current }
+    ensures others { store.new ≡ record store.old { sets = store.new.sets } }
+    ensures sound { (most : ℕ) → IsStore most store.old → IsStore most store.new }
+    ensures holds { (list : ChangeList) → Holds D.Disk store.old list → Holds D.Disk store.new list }
+    ensures goes { Goes D.Disk store.old store.new }
+{
+    for transaction in transactions.into_vec() {
+        let Transaction { view, .. } = transaction;
+        store.close(view);
+    }
+}
+
+// Once the source was read to its end, the open transactions are closed, and all complete steps are put in files.
+// Another end stays as it is.
+fn settle_at_end<H: Threads + Wait + Clock + Sync, D: Disk, K: Keeper>(
+    rt: &H,
     alloc: Global,
     end: LinkEnd,
+    transactions: ListOf<Transaction>,
     store: &mut Store<D, K>,
 ) -> LinkEnd
-    requires sound { end ≡ LinkEnd.Done → (most : ℕ) × IsStore K.Keeper most store.old }
+    requires sound { end ≡ LinkEnd.Done → (most : ℕ) × IsStore most store.old × (most ≤ 2 ^ 28) }
+    requires pins { end ≡ LinkEnd.Done → ArePinned store.old.sets.held (views_of transactions) }
     ensures settled { result ≡ LinkEnd.Done → (end ≡ LinkEnd.Done) × ((list : ChangeList) →
-        Holds D.Disk K.Keeper store.old list → IsSettled D.Disk K.Keeper store.new list) }
-    ensures cut { end ≡ LinkEnd.Done → (list : ChangeList) → Holds D.Disk K.Keeper store.old list →
-        Keeps D.Disk K.Keeper store.new list }
+        Holds D.Disk store.old list → IsSettled D.Disk store.new list) }
+    ensures cut { end ≡ LinkEnd.Done → (list : ChangeList) → Holds D.Disk store.old list →
+        StillHas D.Disk store.new list }
     ensures other { (end ≡ LinkEnd.Done → ⊥) → (result ≡ end) × (store.new ≡ store.old) }
     ensures source { result ≡ LinkEnd.Source → end ≡ LinkEnd.Source }
     ensures sink { result ≡ LinkEnd.Sink → end ≡ LinkEnd.Sink }
     ensures long { result ≡ LinkEnd.Long → end ≡ LinkEnd.Long }
-    ensures goes { Goes D.Disk K.Keeper store.old store.new }
+    ensures goes { Goes D.Disk store.old store.new }
     ensures disk { result ≡ LinkEnd.Disk → (end ≡ LinkEnd.Disk) ⊎ Rose (D.faults store.old.disk)
         (D.faults store.new.disk) }
-    ensures keeper { result ≡ LinkEnd.Keeper → (end ≡ LinkEnd.Keeper) ⊎ Rose (K.faults store.old.keeper)
-        (K.faults store.new.keeper) }
+    ensures keeper { result ≡ LinkEnd.Keeper → (end ≡ LinkEnd.Keeper) ⊎ Rose store.old.hot.faults
+        store.new.hot.faults }
 {
     if end != LinkEnd::Done {
         return end;
     }
-    match store.settle(alloc) {
+    close_all(transactions, store);
+    match store.settle(rt, alloc) {
         Ok(()) => LinkEnd::Done,
         Err(stop) => LinkEnd::from(stop),
     }
@@ -83,7 +105,7 @@ fn settle_at_end<D: Disk, K: Keeper>(
 
 /// Runs one session over an empty keeper and an empty disk.
 pub fn run_plain<H: Threads + Wait + Clock + Sync, D: Disk, K: Keeper, I: Source, O: Sink>(
-    _rt: &H,
+    rt: &H,
     alloc: Global,
     disk: D,
     keeper: K,
@@ -121,18 +143,30 @@ pub fn run_plain<H: Threads + Wait + Clock + Sync, D: Disk, K: Keeper, I: Source
         (I.left source.new)) }
     ensures usage { result.status ≡ Status.Usage → ⊥ }
 {
+    let store = match Store::new(alloc, disk, keeper, size) {
+        Ok(store) => store,
+        Err(NotMade { disk, keeper }) => {
+            return Ended {
+                status: Status::Memory,
+                disk,
+                keeper,
+            };
+        }
+    };
     let mut served = Served {
         cut: LineCut::new(alloc, limits.line),
         session: Session {
-            store: Store::new(alloc, disk, keeper, size),
+            store,
             link: Link::new(alloc),
         },
         lines: 0,
     };
-    let end = serve(alloc, limits, &mut served, source, sink);
+    let end = serve(rt, alloc, limits, &mut served, source, sink);
     let Served { session, .. } = served;
-    let Session { mut store, .. } = session;
-    let end = settle_at_end(alloc, end, &mut store);
+    let Session { mut store, link } = session;
+    let Link { transactions, .. } = link;
+    let end = settle_at_end(rt, alloc, end, transactions, &mut store);
+    store_laws(&store);
     let (disk, keeper) = store.into_parts();
     Ended {
         status: status_of(end),

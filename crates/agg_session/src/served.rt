@@ -15,8 +15,11 @@ use crate::session::Session;
 use crate::writing::put_all;
 use agg_outside::{Bytes, Disk, Keeper, Sink};
 use line_words::{Cutting, LineCut, Reply};
-use plain_state::Stop;
+use state_store::Stop;
 use std::alloc::Global;
+use std::rt::Clock;
+use std::sync::Wait;
+use std::thread::Threads;
 
 /// A session at work on a text.
 #[derive(Drop)]
@@ -29,32 +32,34 @@ pub struct Served<D: Disk, K: Keeper> {
 
 impl<D: Disk, K: Keeper> Served<D, K> {
     // Answers the next line that has its line feed, and says whether there was one.
-    fn answer_line<O: Sink>(
+    fn answer_line<H: Threads + Wait + Clock + Sync, O: Sink>(
         &mut self,
+        rt: &H,
         alloc: Global,
         limits: &Limits,
         sink: &mut O,
     ) -> Result<bool, LinkEnd>
         requires limit { limits.now.content ≤ 2 ^ 28 }
-        requires lines { self.old.lines < 2 ^ 63 }
-        requires sound { IsServed K.Keeper limits.now self.old }
-        ensures sound { OnOk result (IsServed K.Keeper limits.now self.new) }
+        requires lines { self.old.lines < 2 ^ 61 }
+        requires sound { IsServed limits.now self.old }
+        ensures sound { OnOk result (IsServed limits.now self.new) }
         ensures lines { self.new.lines + length self.new.cut.left ≤ self.old.lines + length self.old.cut.left }
         ensures shorter { IfOk result (λ found. OnTrue found (length self.new.cut.left < length self.old.cut.left)) }
         ensures none { IfOk result (λ found. OnFalse found ((next_cut self.new.cut).0 ≡ None)) }
         ensures answered { (start : State) (first : Option (List ℕ)) (text : List ℕ) →
-            IsAnswered D.Disk K.Keeper limits.now self.old first (O.bytes sink.old) start text →
-            OnOk result (IsAnswered D.Disk K.Keeper limits.now self.new first (O.bytes sink.new) start text) }
+            IsAnswered D.Disk limits.now self.old first (O.bytes sink.old) start text →
+            OnOk result (IsAnswered D.Disk limits.now self.new first (O.bytes sink.new) start text) }
         ensures stopped { (start : State) (first : Option (List ℕ)) (text : List ℕ) →
-            IsAnswered D.Disk K.Keeper limits.now self.old first (O.bytes sink.old) start text →
-            OnErr result (HasStopped D.Disk K.Keeper limits.now self.new.session.store first (O.bytes sink.new) start
+            IsAnswered D.Disk limits.now self.old first (O.bytes sink.old) start text →
+            OnErr result (HasStopped D.Disk limits.now self.new.session.store first (O.bytes sink.new) start
             (ended_lines limits.now.line text)) }
-        ensures blamed { IsBlamed D.Disk K.Keeper O.Sink ⊥ self.old.session.store self.new.session.store sink.old
+        ensures blamed { IsBlamed D.Disk O.Sink ⊥ self.old.session.store self.new.session.store sink.old
             sink.new result }
         ensures wants { IfErr result IsWant }
     {
         let number = self.lines + 1;
-        let Some(text) = next_reply(alloc, limits, number, &mut self.cut, &mut self.session)? else {
+        let Some(text) = next_reply(rt, alloc, limits, number, &mut self.cut, &mut self.session)?
+        else {
             return Ok(false);
         };
         self.lines = number;
@@ -63,90 +68,94 @@ impl<D: Disk, K: Keeper> Served<D, K> {
     }
 
     // Answers all lines that have their line feed.
-    fn answer_lines<O: Sink>(
+    fn answer_lines<H: Threads + Wait + Clock + Sync, O: Sink>(
         &mut self,
+        rt: &H,
         alloc: Global,
         limits: &Limits,
         sink: &mut O,
     ) -> Result<(), LinkEnd>
         requires limit { limits.now.content ≤ 2 ^ 28 }
-        requires lines { self.old.lines + length self.old.cut.left < 2 ^ 63 }
-        requires sound { IsServed K.Keeper limits.now self.old }
-        ensures sound { OnOk result (IsServed K.Keeper limits.now self.new) }
+        requires lines { self.old.lines + length self.old.cut.left < 2 ^ 61 }
+        requires sound { IsServed limits.now self.old }
+        ensures sound { OnOk result (IsServed limits.now self.new) }
         ensures lines { self.new.lines + length self.new.cut.left ≤ self.old.lines + length self.old.cut.left }
         ensures none { OnOk result ((next_cut self.new.cut).0 ≡ None) }
         ensures answered { (start : State) (first : Option (List ℕ)) (text : List ℕ) →
-            IsAnswered D.Disk K.Keeper limits.now self.old first (O.bytes sink.old) start text →
-            OnOk result (IsAnswered D.Disk K.Keeper limits.now self.new first (O.bytes sink.new) start text) }
+            IsAnswered D.Disk limits.now self.old first (O.bytes sink.old) start text →
+            OnOk result (IsAnswered D.Disk limits.now self.new first (O.bytes sink.new) start text) }
         ensures stopped { (start : State) (first : Option (List ℕ)) (text : List ℕ) →
-            IsAnswered D.Disk K.Keeper limits.now self.old first (O.bytes sink.old) start text →
-            OnErr result (HasStopped D.Disk K.Keeper limits.now self.new.session.store first (O.bytes sink.new) start
+            IsAnswered D.Disk limits.now self.old first (O.bytes sink.old) start text →
+            OnErr result (HasStopped D.Disk limits.now self.new.session.store first (O.bytes sink.new) start
             (ended_lines limits.now.line text)) }
-        ensures blamed { IsBlamed D.Disk K.Keeper O.Sink ⊥ self.old.session.store self.new.session.store sink.old
+        ensures blamed { IsBlamed D.Disk O.Sink ⊥ self.old.session.store self.new.session.store sink.old
             sink.new result }
         ensures wants { IfErr result IsWant }
     {
-        while self.answer_line(alloc, limits, sink)? {}
+        while self.answer_line(rt, alloc, limits, sink)? {}
         Ok(())
     }
 
     /// Takes the next piece of the text, and answers all lines that have their line feed.
-    pub fn feed<O: Sink>(
+    pub fn feed<H: Threads + Wait + Clock + Sync, O: Sink>(
         &mut self,
+        rt: &H,
         alloc: Global,
         limits: &Limits,
         piece: &[u8],
         sink: &mut O,
     ) -> Result<(), LinkEnd>
         requires limit { limits.now.content ≤ 2 ^ 28 }
-        requires lines { self.old.lines + length self.old.cut.left + length piece.now < 2 ^ 63 }
-        requires sound { IsServed K.Keeper limits.now self.old }
-        ensures sound { OnOk result (IsServed K.Keeper limits.now self.new) }
+        requires lines { self.old.lines + length self.old.cut.left + length piece.now < 2 ^ 61 }
+        requires sound { IsServed limits.now self.old }
+        ensures sound { OnOk result (IsServed limits.now self.new) }
         ensures lines { self.new.lines + length self.new.cut.left ≤ self.old.lines + length self.old.cut.left + length
             piece.now }
         ensures none { OnOk result ((next_cut self.new.cut).0 ≡ None) }
         ensures answered { (start : State) (first : Option (List ℕ)) (text : List ℕ) →
-            IsAnswered D.Disk K.Keeper limits.now self.old first (O.bytes sink.old) start text →
-            OnOk result (IsAnswered D.Disk K.Keeper limits.now self.new first (O.bytes sink.new) start
+            IsAnswered D.Disk limits.now self.old first (O.bytes sink.old) start text →
+            OnOk result (IsAnswered D.Disk limits.now self.new first (O.bytes sink.new) start
             (text ++ piece.now)) }
         ensures stopped { (start : State) (first : Option (List ℕ)) (text : List ℕ) →
-            IsAnswered D.Disk K.Keeper limits.now self.old first (O.bytes sink.old) start text →
-            OnErr result (HasStopped D.Disk K.Keeper limits.now self.new.session.store first (O.bytes sink.new) start
+            IsAnswered D.Disk limits.now self.old first (O.bytes sink.old) start text →
+            OnErr result (HasStopped D.Disk limits.now self.new.session.store first (O.bytes sink.new) start
             (ended_lines limits.now.line (text ++ piece.now))) }
-        ensures blamed { IsBlamed D.Disk K.Keeper O.Sink ⊥ self.old.session.store self.new.session.store sink.old
+        ensures blamed { IsBlamed D.Disk O.Sink ⊥ self.old.session.store self.new.session.store sink.old
             sink.new result }
         ensures wants { IfErr result IsWant }
     {
         self.cut.push(piece)?;
-        self.answer_lines(alloc, limits, sink)
+        self.answer_lines(rt, alloc, limits, sink)
     }
 
     /// Answers the last line, which has no line feed, where it has bytes.
-    pub fn finish<O: Sink>(
+    pub fn finish<H: Threads + Wait + Clock + Sync, O: Sink>(
         &mut self,
+        rt: &H,
         alloc: Global,
         limits: &Limits,
         sink: &mut O,
     ) -> Result<(), LinkEnd>
         requires limit { limits.now.content ≤ 2 ^ 28 }
-        requires lines { self.old.lines < 2 ^ 63 }
-        requires sound { IsServed K.Keeper limits.now self.old }
+        requires lines { self.old.lines < 2 ^ 61 }
+        requires sound { IsServed limits.now self.old }
         requires none { (next_cut self.old.cut).0 ≡ None }
-        ensures sound { OnOk result (IsSession K.Keeper limits.now self.new.session) }
+        ensures sound { OnOk result (IsSession limits.now self.new.session) }
         ensures answered { (start : State) (first : Option (List ℕ)) (text : List ℕ) →
-            IsAnswered D.Disk K.Keeper limits.now self.old first (O.bytes sink.old) start text →
-            OnOk result (HasAnswered D.Disk K.Keeper limits.now self.new.session first (O.bytes sink.new) start
+            IsAnswered D.Disk limits.now self.old first (O.bytes sink.old) start text →
+            OnOk result (HasAnswered D.Disk limits.now self.new.session first (O.bytes sink.new) start
             (pieces_of limits.now.line text)) }
         ensures stopped { (start : State) (first : Option (List ℕ)) (text : List ℕ) →
-            IsAnswered D.Disk K.Keeper limits.now self.old first (O.bytes sink.old) start text →
-            OnErr result (HasStopped D.Disk K.Keeper limits.now self.new.session.store first (O.bytes sink.new) start
+            IsAnswered D.Disk limits.now self.old first (O.bytes sink.old) start text →
+            OnErr result (HasStopped D.Disk limits.now self.new.session.store first (O.bytes sink.new) start
             (pieces_of limits.now.line text)) }
-        ensures blamed { IsBlamed D.Disk K.Keeper O.Sink ⊥ self.old.session.store self.new.session.store sink.old
+        ensures blamed { IsBlamed D.Disk O.Sink ⊥ self.old.session.store self.new.session.store sink.old
             sink.new result }
         ensures wants { IfErr result IsWant }
     {
         let number = self.lines + 1;
-        let Some(text) = last_reply(alloc, limits, number, &mut self.cut, &mut self.session)? else {
+        let Some(text) = last_reply(rt, alloc, limits, number, &mut self.cut, &mut self.session)?
+        else {
             return Ok(());
         };
         self.lines = number;
@@ -156,7 +165,8 @@ impl<D: Disk, K: Keeper> Served<D, K> {
 
 // Cuts off the next line that has its line feed, and answers the text of its reply; none where no
 // further line end has come.
-fn next_reply<D: Disk, K: Keeper>(
+fn next_reply<H: Threads + Wait + Clock + Sync, D: Disk, K: Keeper>(
+    rt: &H,
     alloc: Global,
     limits: &Limits,
     number: u64,
@@ -164,18 +174,20 @@ fn next_reply<D: Disk, K: Keeper>(
     session: &mut Session<D, K>,
 ) -> Result<Option<Bytes>, Stop>
     requires limit { limits.now.content ≤ 2 ^ 28 }
-    requires sound { IsSession K.Keeper limits.now session.old }
+    requires sound { IsSession limits.now session.old }
     requires opens { session.old.link.opens < 2 ^ 63 }
-    ensures sound { IsSession K.Keeper limits.now session.new }
+    requires epoch { session.old.store.hot.epoch < 2 ^ 62 }
+    ensures sound { IsSession limits.now session.new }
     ensures opens { session.new.link.opens ≤ session.old.link.opens + 1 }
     ensures cut { cut.new ≡ record cut.old { left = (next_cut cut.old).1 } }
-    ensures replied { IsReplied D.Disk K.Keeper limits.now number (next_cut cut.old).0 session.old session.new result }
+    ensures replied { IsReplied D.Disk limits.now number (next_cut cut.old).0 session.old session.new result }
 {
-    reply_to(alloc, limits, number, cut.next(), session)
+    reply_to(rt, alloc, limits, number, cut.next(), session)
 }
 
 // The same of the last line, which has no line feed.
-fn last_reply<D: Disk, K: Keeper>(
+fn last_reply<H: Threads + Wait + Clock + Sync, D: Disk, K: Keeper>(
+    rt: &H,
     alloc: Global,
     limits: &Limits,
     number: u64,
@@ -183,19 +195,21 @@ fn last_reply<D: Disk, K: Keeper>(
     session: &mut Session<D, K>,
 ) -> Result<Option<Bytes>, Stop>
     requires limit { limits.now.content ≤ 2 ^ 28 }
-    requires sound { IsSession K.Keeper limits.now session.old }
+    requires sound { IsSession limits.now session.old }
     requires opens { session.old.link.opens < 2 ^ 63 }
-    ensures sound { IsSession K.Keeper limits.now session.new }
+    requires epoch { session.old.store.hot.epoch < 2 ^ 62 }
+    ensures sound { IsSession limits.now session.new }
     ensures opens { session.new.link.opens ≤ session.old.link.opens + 1 }
     ensures cut { cut.new ≡ record cut.old { left = [] } }
-    ensures replied { IsReplied D.Disk K.Keeper limits.now number (rest_cut cut.old) session.old session.new result }
+    ensures replied { IsReplied D.Disk limits.now number (rest_cut cut.old) session.old session.new result }
 {
-    reply_to(alloc, limits, number, cut.rest(), session)
+    reply_to(rt, alloc, limits, number, cut.rest(), session)
 }
 
 // The text of the reply to what was cut off; none where nothing was.
 #[tactic(auto, unfolding(crate::specs::Answer::effect))]
-fn reply_to<D: Disk, K: Keeper>(
+fn reply_to<H: Threads + Wait + Clock + Sync, D: Disk, K: Keeper>(
+    rt: &H,
     alloc: Global,
     limits: &Limits,
     number: u64,
@@ -203,23 +217,24 @@ fn reply_to<D: Disk, K: Keeper>(
     session: &mut Session<D, K>,
 ) -> Result<Option<Bytes>, Stop>
     requires limit { limits.now.content ≤ 2 ^ 28 }
-    requires sound { IsSession K.Keeper limits.now session.old }
+    requires sound { IsSession limits.now session.old }
     requires opens { session.old.link.opens < 2 ^ 63 }
-    ensures sound { IsSession K.Keeper limits.now session.new }
+    requires epoch { session.old.store.hot.epoch < 2 ^ 62 }
+    ensures sound { IsSession limits.now session.new }
     ensures opens { session.new.link.opens ≤ session.old.link.opens + 1 }
     ensures found { IfOk result (λ text. is_some text ≡ is_some (cut_of cutting.entry)) }
     ensures none { IfOk result (λ text. IfNone text (session.new ≡ session.old)) }
-    ensures exact { (s : State) → Stands D.Disk K.Keeper session.old s →
+    ensures exact { (s : State) → Stands D.Disk session.old s →
         IfOk result (λ text. IfSome text (λ t. IfSome (cut_of cutting.entry)
-        (λ piece. HasEffect D.Disk K.Keeper session.new t (effect limits.now number piece s)))) }
+        (λ piece. HasEffect D.Disk session.new t (effect limits.now number piece s)))) }
     ensures err_found { OnErr result (true ≡ is_some (cut_of cutting.entry)) }
-    ensures err { (s : State) → Stands D.Disk K.Keeper session.old s →
-        OnErr result (IfSome (cut_of cutting.entry) (λ piece. EndsAt D.Disk K.Keeper session.new.store s.list
+    ensures err { (s : State) → Stands D.Disk session.old s →
+        OnErr result (IfSome (cut_of cutting.entry) (λ piece. EndsAt D.Disk session.new.store s.list
         (effect limits.now number piece s).state.list)) }
-    ensures devices { KeepsDevices D.Disk K.Keeper session.old.store session.new.store result }
+    ensures devices { KeepsDevices D.Disk session.old.store session.new.store result }
 {
     match cutting {
-        Cutting::Line(line) => Ok(Some(session.line(alloc, limits, number, line)?)),
+        Cutting::Line(line) => Ok(Some(session.line(rt, alloc, limits, number, line)?)),
         Cutting::Long => Ok(Some(Reply::ErrLong(number).print(alloc)?)),
         Cutting::NotYet => Ok(None),
     }

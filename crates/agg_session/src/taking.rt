@@ -14,6 +14,9 @@ use crate::limits::Limits;
 use crate::served::Served;
 use agg_outside::{Disk, Keeper, Sink, Source};
 use std::alloc::Global;
+use std::rt::Clock;
+use std::sync::Wait;
+use std::thread::Threads;
 
 /// How many bytes are asked for at a time.
 const ROOM: usize = 4096;
@@ -37,7 +40,8 @@ fn take_piece<'a, I: Source>(source: &mut I, buffer: &'a mut [u8]) -> Result<&'a
 
 // Takes at most `room` bytes and answers the lines that they end. Answers how many bytes came: none
 // at the end of the source.
-fn take_some<D: Disk, K: Keeper, I: Source, O: Sink>(
+fn take_some<H: Threads + Wait + Clock + Sync, D: Disk, K: Keeper, I: Source, O: Sink>(
+    rt: &H,
     alloc: Global,
     limits: &Limits,
     room: usize,
@@ -48,34 +52,35 @@ fn take_some<D: Disk, K: Keeper, I: Source, O: Sink>(
     requires limit { limits.now.content ≤ 2 ^ 28 }
     requires room { 0 < room }
     requires within { room ≤ 4096 }
-    requires lines { served.old.lines + length served.old.cut.left < 2 ^ 62 }
-    requires sound { IsServed K.Keeper limits.now served.old }
+    requires lines { served.old.lines + length served.old.cut.left < 2 ^ 60 }
+    requires sound { IsServed limits.now served.old }
     requires none { (next_cut served.old.cut).0 ≡ None }
     ensures fits { IfOk result (λ count. count ≤ room) }
-    ensures sound { OnOk result (IsServed K.Keeper limits.now served.new) }
+    ensures sound { OnOk result (IsServed limits.now served.new) }
     ensures none { OnOk result ((next_cut served.new.cut).0 ≡ None) }
     ensures lines { IfOk result
         (λ count. served.new.lines + length served.new.cut.left ≤ served.old.lines + length served.old.cut.left +
         count) }
-    ensures answered { IfOk result (λ count. TakesOver D.Disk K.Keeper I.Source O.Sink limits.now served.old served.new
+    ensures answered { IfOk result (λ count. TakesOver D.Disk I.Source O.Sink limits.now served.old served.new
         source.old source.new sink.old sink.new count) }
-    ensures stopped { OnErr result (TakesPartOver D.Disk K.Keeper I.Source O.Sink limits.now room served.old served.new
+    ensures stopped { OnErr result (TakesPartOver D.Disk I.Source O.Sink limits.now room served.old served.new
         source.old source.new sink.old sink.new) }
     ensures nothing { IsErrOf result LinkEnd.Source →
         (served.new ≡ served.old) × (O.bytes sink.new ≡ O.bytes sink.old) × (I.left source.new ≡ I.left source.old) }
     ensures source_stays { I.faults source.old ≤ I.faults source.new }
-    ensures blamed { IsBlamed D.Disk K.Keeper O.Sink (Rose (I.faults source.old) (I.faults source.new))
+    ensures blamed { IsBlamed D.Disk O.Sink (Rose (I.faults source.old) (I.faults source.new))
         served.old.session.store served.new.session.store sink.old sink.new result }
     ensures wants { IfErr result IsWant }
 {
     let mut buffer = [0u8; ROOM];
     let piece = take_piece(source, &mut buffer[..room])?;
-    served.feed(alloc, limits, piece, sink)?;
+    served.feed(rt, alloc, limits, piece, sink)?;
     Ok(piece.len())
 }
 
 /// Serves the source to its end, and at most `limits.bytes` bytes of it.
-pub fn serve<D: Disk, K: Keeper, I: Source, O: Sink>(
+pub fn serve<H: Threads + Wait + Clock + Sync, D: Disk, K: Keeper, I: Source, O: Sink>(
+    rt: &H,
     alloc: Global,
     limits: &Limits,
     served: &mut Served<D, K>,
@@ -85,28 +90,28 @@ pub fn serve<D: Disk, K: Keeper, I: Source, O: Sink>(
     requires limit { limits.now.content ≤ 2 ^ 28 }
     requires bytes { limits.now.bytes ≤ 2 ^ 40 }
     requires fresh { served.old.lines + length served.old.cut.left ≡ 0 }
-    requires sound { IsServed K.Keeper limits.now served.old }
+    requires sound { IsServed limits.now served.old }
     requires none { (next_cut served.old.cut).0 ≡ None }
-    ensures sound { result ≡ LinkEnd.Done → IsSession K.Keeper limits.now served.new.session }
-    ensures all { result ≡ LinkEnd.Done → ServesAllOver D.Disk K.Keeper I.Source O.Sink limits.now served.old served.new
+    ensures sound { result ≡ LinkEnd.Done → IsSession limits.now served.new.session }
+    ensures all { result ≡ LinkEnd.Done → ServesAllOver D.Disk I.Source O.Sink limits.now served.old served.new
         source.old source.new sink.old sink.new }
     ensures ended { (result ≡ LinkEnd.Source) ⊎ (result ≡ LinkEnd.Long) →
-        ServesEndedOver D.Disk K.Keeper I.Source O.Sink limits.now served.old served.new
+        ServesEndedOver D.Disk I.Source O.Sink limits.now served.old served.new
         source.old source.new sink.old sink.new }
     ensures part { (result ≡ LinkEnd.Done → ⊥) →
-        ServesPartOver D.Disk K.Keeper I.Source O.Sink limits.now served.old served.new
+        ServesPartOver D.Disk I.Source O.Sink limits.now served.old served.new
         source.old source.new sink.old sink.new }
     ensures long { result ≡ LinkEnd.Long → ForSome (I.left source.old) (λ input. EndsLong limits.now.bytes input
         (I.left source.new)) }
     ensures source_stays { I.faults source.old ≤ I.faults source.new }
-    ensures blamed { IsBlamed D.Disk K.Keeper O.Sink (Rose (I.faults source.old) (I.faults source.new))
+    ensures blamed { IsBlamed D.Disk O.Sink (Rose (I.faults source.old) (I.faults source.new))
         served.old.session.store served.new.session.store sink.old sink.new (ended_by result) }
 {
     let mut taken = 0u64;
     while taken < limits.bytes {
         let room = (limits.bytes - taken).min(ROOM as u64) as usize;
-        match take_some(alloc, limits, room, served, source, sink) {
-            Ok(0) => return end_of(served.finish(alloc, limits, sink)),
+        match take_some(rt, alloc, limits, room, served, source, sink) {
+            Ok(0) => return end_of(served.finish(rt, alloc, limits, sink)),
             Ok(count) => taken += count as u64,
             Err(end) => return end,
         }

@@ -6,7 +6,7 @@ use Rattle.agg_session.proofs.served.next_reply.Goals as goal
 pub returns-clause-replied : goal.returns-clause-replied
 returns-clause-replied g c =
     let said = c.reply_to.ensures in
-    subst (λ (piece : Option Piece). IsReplied g.D.Disk g.K.Keeper c.args.limits.now c.args.number piece c.args.session.now c.reply_to.new.session c.reply_to.result) c.next.ensures.cut
+    subst (λ (piece : Option Piece). IsReplied g.D.Disk c.args.limits.now c.args.number piece c.args.session.now c.reply_to.new.session c.reply_to.result) c.next.ensures.cut
     (record {
       found = said.found;
       none = said.none;

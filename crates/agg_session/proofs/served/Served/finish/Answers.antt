@@ -1,8 +1,8 @@
-use Rattle.std.proofs.Common.{◌≡◌, true, refl, is_some, Some, List, ℕ, ◌++◌, ap, subst, sym, ◌∙◌, arith}
+use Rattle.std.proofs.Common.{◌≡◌, Err, true, refl, is_some, Some, List, ℕ, ◌++◌, ap, subst, sym, ◌∙◌, arith}
 use Rattle.agg_session.proofs.ServingLaws.{finished_same, finished_more, if_none, if_some}
 use Rattle.line_words.specs.LineCut.{rest_cut}
 use Rattle.agg_session.specs.Written.{BeginsToPut}
-use Rattle.plain_state.proofs.SettlingLaws.{on_err}
+use Rattle.agg_session.proofs.StoreLaws.{on_err}
 use Rattle.agg_session.proofs.StoppingLaws.{stops_last, stops_last_put}
 use Rattle.agg_session.specs.Ends.{end_of_stop, end_of_sink}
 use Rattle.agg_session.proofs.BlameLaws.{is_err_of, want_at_stop, want_at_sink, blamed_stop, blamed_sink}
@@ -10,13 +10,13 @@ use Rattle.agg_session.proofs.served.Served.finish.Goals as goal
 
 pub returns-in_default-clause-answered : goal.returns-in_default-clause-answered
 returns-in_default-clause-answered g c = λ start first text all.
-    finished_same _ _ c.args.limits.now c.args.self.now _ first _ start text c.requires.sound c.requires.none
+    finished_same _ c.args.limits.now c.args.self.now _ first _ start text c.requires.sound c.requires.none
     (ap is_some (sym c.in_default.is) ∙ c.in_ok-text.ensures.replied.found) (if_none _ _ c.in_default.is c.in_ok-text.ensures.replied.none) all
 
 pub returns-clause-answered : goal.returns-clause-answered
 returns-clause-answered g c = λ start first text all.
-    finished_more _ _ c.args.limits.now c.args.self.now _ c.in-Some.text first _ _ start text c.requires.sound c.requires.none
-    (ap is_some (sym c.in-Some.is) ∙ c.in_ok-text.ensures.replied.found) c.last_reply.ensures.replied.devices.goes.steps
+    finished_more _ c.args.limits.now c.args.self.now _ c.in-Some.text first _ _ start text c.requires.sound c.requires.none
+    (ap is_some (sym c.in-Some.is) ∙ c.in_ok-text.ensures.replied.found) c.last_reply.ensures.replied.devices.goes.end
     (λ s stands. if_some _ _ _ c.in-Some.is (c.in_ok-text.ensures.replied.exact s stands))
     (λ b told. subst (λ (p : List ℕ). g.O.Sink.bytes c.put_all.new.sink ≡ Some (b ++ p)) c.as_slice.ensures (c.in_ok-put_all.ensures.ok b told))
     all
@@ -24,29 +24,30 @@ returns-clause-answered g c = λ start first text all.
 pub returns-in_err-text-clause-stopped : goal.returns-in_err-text-clause-stopped
 returns-in_err-text-clause-stopped g c = λ start first text all.
     on_err c.from_residual.result _
-    (stops_last _ _ c.args.limits.now c.args.self.now first _ _ start text c.last_reply.new.session.store c.requires.sound c.requires.none c.in_err-text.ensures.replied.err_found c.last_reply.ensures.replied.devices.goes.steps refl (λ s stands. c.in_err-text.ensures.replied.err s stands) all)
+    (stops_last _ c.args.limits.now c.args.self.now first _ _ start text c.last_reply.new.session.store c.requires.sound c.requires.none c.in_err-text.ensures.replied.err_found c.last_reply.ensures.replied.devices.goes.end refl (λ s stands. c.in_err-text.ensures.replied.err s stands) all)
 
 pub returns-in_err-put_all-clause-stopped : goal.returns-in_err-put_all-clause-stopped
 returns-in_err-put_all-clause-stopped g c = λ start first text all.
     let found : true ≡ is_some (rest_cut c.args.self.now.cut) = ap is_some (sym c.in-Some.is) ∙ c.in_ok-text.ensures.replied.found in
     on_err c.from_residual-in_err-put_all.result _
-    (stops_last_put _ _ c.args.limits.now c.args.self.now first _ _ start text c.last_reply.new.session c.in-Some.text c.requires.sound c.requires.none found c.last_reply.ensures.replied.devices.goes.steps
+    (stops_last_put _ c.args.limits.now c.args.self.now first _ _ start text c.last_reply.new.session c.in-Some.text c.requires.sound c.requires.none found c.last_reply.ensures.replied.devices.goes.end
     (λ s stands. if_some _ _ _ c.in-Some.is (c.in_ok-text.ensures.replied.exact s stands))
     (λ b told. subst (λ (p : List ℕ). BeginsToPut b p (g.O.Sink.bytes c.put_all.new.sink)) c.as_slice.ensures (c.in_err-put_all.ensures.err b told))
     all)
 
 pub returns-in_err-text-clause-blamed : goal.returns-in_err-text-clause-blamed
 returns-in_err-text-clause-blamed g c =
-    blamed_stop g.D.Disk g.K.Keeper g.O.Sink ⊥ c.args.self.now.session.store _ c.args.sink.now c.args.sink.now c.in_err-text.field-0.0 c.last_reply.result c.from_residual.result
+    blamed_stop g.D.Disk g.O.Sink ⊥ c.args.self.now.session.store _ c.args.sink.now c.args.sink.now c.in_err-text.field-0.0 c.last_reply.result c.from_residual.result
     c.in_err-text.was (is_err_of c.from_residual.result (end_of_stop c.in_err-text.field-0.0) c.from_residual.ensures.1) c.last_reply.ensures.replied.devices (omega arith)
 
 pub returns-in_err-text-clause-wants : goal.returns-in_err-text-clause-wants
 returns-in_err-text-clause-wants g c =
     want_at_stop c.from_residual.result c.in_err-text.field-0.0 (is_err_of c.from_residual.result (end_of_stop c.in_err-text.field-0.0) c.from_residual.ensures.1)
+    (λ worn. c.last_reply.ensures.replied.devices.unworn (c.in_err-text.was ∙ ap Err worn))
 
 pub returns-in_err-put_all-clause-blamed : goal.returns-in_err-put_all-clause-blamed
 returns-in_err-put_all-clause-blamed g c =
-    blamed_sink g.D.Disk g.K.Keeper g.O.Sink ⊥ c.args.self.now.session.store _ c.args.sink.now c.put_all.new.sink c.in_err-put_all.field-0.0 c.put_all.result c.from_residual-in_err-put_all.result
+    blamed_sink g.D.Disk g.O.Sink ⊥ c.args.self.now.session.store _ c.args.sink.now c.put_all.new.sink c.in_err-put_all.field-0.0 c.put_all.result c.from_residual-in_err-put_all.result
     c.in_err-put_all.was (is_err_of c.from_residual-in_err-put_all.result (end_of_sink c.in_err-put_all.field-0.0) c.from_residual-in_err-put_all.ensures.1)
     c.last_reply.ensures.replied.devices.goes c.put_all.ensures.cause
 

@@ -1,8 +1,9 @@
-use Rattle.std.proofs.Common.{All, subst, sym, ◌∙◌}
+use Rattle.std.proofs.Common.{All, ap, subst, sym, ◌∙◌, refl, arith}
 use Rattle.agg_model.specs.declared.change.Change.{Change}
 use Rattle.agg_session.specs.declared.link.Link.{Link}
 use Rattle.agg_session.specs.declared.link.Transaction.{Transaction}
-use Rattle.plain_state.specs.Store.{HasView}
+use Rattle.state_store.specs.Store.{HasView, ArePinned}
+use Rattle.agg_session.specs.Links.{views_of}
 use Rattle.agg_session.proofs.SessionLaws.{joined_link, on_true}
 use Rattle.agg_session.proofs.session.Session.change.Goals as goal
 
@@ -13,6 +14,8 @@ returns-then-branch-clause-sound g c = λ sound.
       store = sound.store;
       views = subst (λ (l : Link). All (λ (t : Transaction). HasView c.args.self.now.store t.view) l.transactions)
           (sym (on_true c.in_ok-add.field-0 _ c.if-branch.true c.in_ok-add.ensures.added)) sound.views;
+      pins = subst (λ (l : Link). ArePinned c.args.self.now.store.sets.held (views_of l.transactions))
+          (sym (on_true c.in_ok-add.field-0 _ c.if-branch.true c.in_ok-add.ensures.added)) sound.pins;
       link = joined_link c.args.limits.now _ c.args.self.now.link _ change sound.link c.in-Some.is
           (record { act_fits = c.requires.entity; key = c.requires.key; value = c.requires.value })
           (sym c.if-branch.true ∙ c.in_ok-add.ensures.could)

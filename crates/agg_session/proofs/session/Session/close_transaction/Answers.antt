@@ -1,11 +1,27 @@
-use Rattle.agg_session.proofs.SessionLaws.{closed, not_closed, close_sound}
+use Rattle.std.proofs.Common.{rules, refl, sym, ◌∙◌}
+use Rattle.agg_session.proofs.SessionLaws.{closed, not_closed, close_sound, are_pinned_without, is_pinned_one}
+use Rattle.agg_session.specs.Links.{transactions_without, views_of}
 use Rattle.agg_session.proofs.session.Session.close_transaction.Goals as goal
 
-pub returns-then-close_transaction-clause-exact : goal.returns-then-close_transaction-clause-exact
-returns-then-close_transaction-clause-exact g c = λ s stands. closed _ _ _ _ _ s stands c.if-close_transaction.ensures.could c.if-close_transaction.ensures.closed
+pub close-requires : goal.close-requires
+close-requires g c = (
+  search rules,
+  is_pinned_one c.args.self.now.store.sets.held c.in-Some.transaction.view (views_of (transactions_without c.args.number c.args.self.now.link.transactions))
+      (are_pinned_without c.args.self.now.store.sets.held c.args.number c.args.self.now.link.transactions c.in-Some.transaction (sym c.in-Some.is ∙ c.close_transaction.ensures.is) c.requires),
+)
 
-pub returns-else-close_transaction-clause-exact : goal.returns-else-close_transaction-clause-exact
-returns-else-close_transaction-clause-exact g c = λ s stands. not_closed _ _ _ _ _ s stands c.if-close_transaction.ensures.could c.if-close_transaction.ensures.unchanged
+pub returns-in_default-clause-exact : goal.returns-in_default-clause-exact
+returns-in_default-clause-exact g c = λ s stands.
+    not_closed g.D.Disk c.args.self.now _ c.args.number s stands (sym c.in_default.is ∙ c.close_transaction.ensures.is) c.in_default.ensures.unchanged
 
-pub returns-then-close_transaction-clause-sound : goal.returns-then-close_transaction-clause-sound
-returns-then-close_transaction-clause-sound g c = λ limits sound. close_sound _ limits c.args.self.now _ c.args.number c.if-close_transaction.ensures.closed sound
+pub returns-clause-exact : goal.returns-clause-exact
+returns-clause-exact g c = λ s stands.
+    closed g.D.Disk c.args.self.now _ _ c.args.number c.in-Some.transaction s stands (sym c.in-Some.is ∙ c.close_transaction.ensures.is) c.in-Some.ensures.closed
+    (c.close.ensures.holds s.list stands.list) c.close.ensures.goes
+
+pub returns-clause-sound : goal.returns-clause-sound
+returns-clause-sound g c = λ limits sound.
+    close_sound limits c.args.self.now _ _ c.args.number c.close.ensures.others (c.close.ensures.sound limits.content sound.store)
+    (c.close.ensures.pinned (views_of (transactions_without c.args.number c.args.self.now.link.transactions))
+    (are_pinned_without c.args.self.now.store.sets.held c.args.number c.args.self.now.link.transactions c.in-Some.transaction (sym c.in-Some.is ∙ c.close_transaction.ensures.is) sound.pins))
+    c.in-Some.ensures.closed sound

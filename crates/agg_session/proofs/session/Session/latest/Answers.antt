@@ -1,38 +1,38 @@
-use Rattle.std.proofs.Common.{◌≡◌, Some, None, sym, ◌∙◌}
-use Rattle.plain_state.proofs.ReadingLaws.{reads}
-use Rattle.plain_state.proofs.SettlingLaws.{on_err}
-use Rattle.plain_state.proofs.StoreLaws.{kept}
-use Rattle.agg_session.proofs.SessionLaws.{latest_read, not_read, own_read}
+use Rattle.std.proofs.Common.{rules, ◌≡◌, Some, None, refl, ap, sym, ◌∙◌}
+use Rattle.std.specs.Option.{option_copied}
+use Rattle.agg_session.specs.State.{latest_reply, value_reply}
+use Rattle.agg_session.proofs.StoreLaws.{on_err, kept, read_holds, read_epoch, devices_below}
+use Rattle.agg_session.proofs.SessionLaws.{read_told, not_read, own_read, has_view, read_session}
 use Rattle.agg_session.proofs.session.Session.latest.Goals as goal
 
+pub latest-requires : goal.latest-requires
+latest-requires g c = (
+  search rules,
+  has_view c.args.self.now.store c.args.number c.args.self.now.link.transactions c.in-Some.opened.now (ap option_copied (sym c.in-Some.is) ∙ c.transaction.ensures) c.requires.views,
+)
+
 pub returns-in_default-clause-exact : goal.returns-in_default-clause-exact
-returns-in_default-clause-exact g c = λ s stands. not_read _ _ _ _ _ _ s stands (sym c.in_default.is ∙ c.transaction.ensures.is)
+returns-in_default-clause-exact g c = λ s stands. not_read g.D.Disk c.args.self.now c.args.number (latest_reply c.args.entity c.args.key.now) s stands (ap option_copied (sym c.in_default.is) ∙ c.transaction.ensures)
 
 pub returns-in_default-clause-own : goal.returns-in_default-clause-own
-returns-in_default-clause-own g c = λ t list is read. let none : Some t ≡ None = is ∙ sym c.transaction.ensures.is ∙ c.in_default.is in cc
+returns-in_default-clause-own g c = λ t list is read. let none : Some t ≡ None = is ∙ sym c.transaction.ensures ∙ ap option_copied c.in_default.is in cc
 
-pub returns-in-Some-2-clause-exact : goal.returns-in-Some-2-clause-exact
-returns-in-Some-2-clause-exact g c = λ s stands.
-    latest_read _ _ c.args.self.now _ c.args.number c.in-Some.opened c.args.entity c.args.key.now (Some c.in-Some-2.value) s stands
-    (sym c.in-Some.is ∙ c.transaction.ensures.is) (sym c.in-Some-2.is ∙ c.in_ok-value.ensures.value s.list (reads c.in-Some.opened.view stands.list c.in-Some.ensures.has))
-    (c.in_ok-value.ensures.holds s.list stands.list)
+pub returns-clause-exact : goal.returns-clause-exact
+returns-clause-exact g c = λ s stands.
+    read_told g.D.Disk c.args.self.now _ c.args.number c.in-Some.opened.now (latest_reply c.args.entity c.args.key.now) c.value_reply.result s stands
+    (ap option_copied (sym c.in-Some.is) ∙ c.transaction.ensures) (λ list sees. c.value_reply.ensures ∙ ap value_reply (c.in_ok-value.ensures.value list sees c.requires.domain)) c.in_ok-value.ensures.same c.in_ok-value.ensures.goes
 
-pub returns-in-Some-2-clause-own : goal.returns-in-Some-2-clause-own
-returns-in-Some-2-clause-own g c = λ t list is read.
-    own_read c.args.number c.args.self.now.link.transactions t c.in-Some.opened c.args.self.now.store list c.args.entity c.args.key.now (Some c.in-Some-2.value) g.K.Keeper is (sym c.in-Some.is ∙ c.transaction.ensures.is) read
-    (λ r. sym c.in-Some-2.is ∙ c.in_ok-value.ensures.value list r)
+pub returns-clause-own : goal.returns-clause-own
+returns-clause-own g c = λ t list is sees.
+    own_read c.args.self.now.store.hot c.args.self.now.store.size c.args.number c.args.self.now.link.transactions t c.in-Some.opened.now list (latest_reply c.args.entity c.args.key.now) c.value_reply.result is (ap option_copied (sym c.in-Some.is) ∙ c.transaction.ensures) sees
+    (λ seen. c.value_reply.ensures ∙ ap value_reply (c.in_ok-value.ensures.value list seen c.requires.domain))
 
-pub returns-in-None-clause-exact : goal.returns-in-None-clause-exact
-returns-in-None-clause-exact g c = λ s stands.
-    latest_read _ _ c.args.self.now _ c.args.number c.in-Some.opened c.args.entity c.args.key.now None s stands
-    (sym c.in-Some.is ∙ c.transaction.ensures.is) (sym c.in-None.is ∙ c.in_ok-value.ensures.value s.list (reads c.in-Some.opened.view stands.list c.in-Some.ensures.has))
-    (c.in_ok-value.ensures.holds s.list stands.list)
+pub returns-clause-sound : goal.returns-clause-sound
+returns-clause-sound g c = λ limits sound. read_session limits c.args.self.now _ c.in_ok-value.ensures.same sound
 
-pub returns-in-None-clause-own : goal.returns-in-None-clause-own
-returns-in-None-clause-own g c = λ t list is read.
-    own_read c.args.number c.args.self.now.link.transactions t c.in-Some.opened c.args.self.now.store list c.args.entity c.args.key.now None g.K.Keeper is (sym c.in-Some.is ∙ c.transaction.ensures.is) read
-    (λ r. sym c.in-None.is ∙ c.in_ok-value.ensures.value list r)
+pub returns-in_err-value-clause-sound : goal.returns-in_err-value-clause-sound
+returns-in_err-value-clause-sound g c = λ limits sound. read_session limits c.args.self.now _ c.in_err-value.ensures.same sound
 
 pub returns-in_err-value-clause-err : goal.returns-in_err-value-clause-err
 returns-in_err-value-clause-err g c = λ s stands.
-    on_err c.from_residual.result _ (kept g.D.Disk g.K.Keeper _ s.list (c.in_err-value.ensures.holds s.list stands.list))
+    on_err c.from_residual.result _ (kept g.D.Disk _ s.list (read_holds c.args.self.now.store g.D.Disk _ s.list c.in_err-value.ensures.same stands.list))

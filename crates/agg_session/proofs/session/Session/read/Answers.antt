@@ -1,5 +1,5 @@
-use Rattle.plain_state.proofs.StoreLaws.{kept}
+use Rattle.agg_session.proofs.StoreLaws.{kept}
 use Rattle.agg_session.proofs.session.Session.read.Goals as goal
 
 pub returns-in-Err-Memory-clause-err : goal.returns-in-Err-Memory-clause-err
-returns-in-Err-Memory-clause-err g c = λ s stands. kept g.D.Disk g.K.Keeper c.args.self.now.store s.list stands.list
+returns-in-Err-Memory-clause-err g c = λ s stands. kept g.D.Disk c.args.self.now.store s.list stands.list

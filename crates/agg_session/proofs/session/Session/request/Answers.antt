@@ -1,7 +1,7 @@
 use Rattle.std.proofs.Common.{subst, sym}
-use Rattle.plain_state.specs.Store.{Keeps}
-use Rattle.plain_state.proofs.SettlingLaws.{on_err}
-use Rattle.plain_state.proofs.StoreLaws.{kept}
+use Rattle.agg_session.specs.Running.{StillHas}
+use Rattle.agg_session.proofs.StoreLaws.{on_err}
+use Rattle.agg_session.proofs.StoreLaws.{kept}
 use Rattle.agg_session.proofs.session.Session.request.Goals as goal
 
 pub returns-in-Latest-clause-sound : goal.returns-in-Latest-clause-sound
@@ -19,19 +19,26 @@ returns-in-Settle-clause-sound g c = c.settle.ensures.sound c.args.limits.now c.
 pub returns-in_err-change-in-Put-clause-err : goal.returns-in_err-change-in-Put-clause-err
 returns-in_err-change-in-Put-clause-err g c = λ s stands.
     on_err c.from_residual.result _
-    (subst (λ x. Keeps g.D.Disk g.K.Keeper x s.list) (sym c.change.ensures.store) (kept g.D.Disk g.K.Keeper c.args.self.now.store s.list stands.list))
+    (subst (λ x. StillHas g.D.Disk x s.list) (sym c.change.ensures.store) (kept g.D.Disk c.args.self.now.store s.list stands.list))
 
 pub returns-in_err-change-in-Del-clause-err : goal.returns-in_err-change-in-Del-clause-err
 returns-in_err-change-in-Del-clause-err g c = λ s stands.
     on_err c.from_residual-in_err-change-in-Del.result _
-    (subst (λ x. Keeps g.D.Disk g.K.Keeper x s.list) (sym c.change-in-Del.ensures.store) (kept g.D.Disk g.K.Keeper c.args.self.now.store s.list stands.list))
+    (subst (λ x. StillHas g.D.Disk x s.list) (sym c.change-in-Del.ensures.store) (kept g.D.Disk c.args.self.now.store s.list stands.list))
 
 pub returns-in_err-change-in-Mark-clause-err : goal.returns-in_err-change-in-Mark-clause-err
 returns-in_err-change-in-Mark-clause-err g c = λ s stands.
     on_err c.from_residual-in_err-change-in-Mark.result _
-    (subst (λ x. Keeps g.D.Disk g.K.Keeper x s.list) (sym c.change-in-Mark.ensures.store) (kept g.D.Disk g.K.Keeper c.args.self.now.store s.list stands.list))
+    (subst (λ x. StillHas g.D.Disk x s.list) (sym c.change-in-Mark.ensures.store) (kept g.D.Disk c.args.self.now.store s.list stands.list))
 
-pub returns-in_err-open_transaction-in-Open-clause-err : goal.returns-in_err-open_transaction-in-Open-clause-err
-returns-in_err-open_transaction-in-Open-clause-err g c = λ s stands.
-    on_err c.from_residual-in_err-open_transaction-in-Open.result _
-    (subst (λ x. Keeps g.D.Disk g.K.Keeper x s.list) (sym c.open_transaction.ensures.store) (kept g.D.Disk g.K.Keeper c.args.self.now.store s.list stands.list))
+pub returns-in-Asof-clause-sound : goal.returns-in-Asof-clause-sound
+returns-in-Asof-clause-sound g c = c.as_of.ensures.sound c.args.limits.now c.requires.sound
+
+pub returns-in-Range-clause-sound : goal.returns-in-Range-clause-sound
+returns-in-Range-clause-sound g c = c.range.ensures.sound c.args.limits.now c.requires.sound
+
+pub returns-in-History-clause-sound : goal.returns-in-History-clause-sound
+returns-in-History-clause-sound g c = c.history.ensures.sound c.args.limits.now c.requires.sound
+
+pub returns-in-Index-clause-sound : goal.returns-in-Index-clause-sound
+returns-in-Index-clause-sound g c = c.index.ensures.sound c.args.limits.now c.requires.sound
