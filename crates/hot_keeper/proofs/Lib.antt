@@ -1,4 +1,5 @@
 pub mod AheadLaws
+pub mod EmptyWindows
 pub mod KeyLaws
 pub mod NoteLaws
 pub mod PieceLaws

@@ -165,7 +165,7 @@ impl<K: Keeper> Hot<K> {
 
     /// The first `limit` keys of the entity not below `from` of which the epoch sees a change from
     /// `tx_from` on and below `tx_to`: at most two looks for each key, one for each version in the way that
-    /// the epoch doesn't see, and one more.
+    /// the epoch doesn't see, and one more; none where there is no such number.
     pub fn keys(
         &mut self,
         alloc: Global,
@@ -182,6 +182,9 @@ impl<K: Keeper> Hot<K> {
         ensures unworn { IsUnworn result }
         ensures cause { HasCause RowsError.Keeper self.old.faults self.new.faults result }
     {
+        if tx_from >= tx_to {
+            return Ok(Keys::new(alloc));
+        }
         let numbers = Range {
             from: tx_from,
             to: tx_to,
