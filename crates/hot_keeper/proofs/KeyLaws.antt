@@ -1,5 +1,5 @@
 -- Laws of the looks that find the keys of an entity.
-use Rattle.std.proofs.Common.{◌≡◌, ◌≢◌, ℕ, ◌<◌, ◌≤◌, Bool, true, false, not, cond, ◌&&◌, List, [], ◌∷◌, ◌++◌, length, take, map, All, Some, None, refl, sym, ap, subst, ◌∙◌, arith, append-nil, append_assoc, ltb-true, ltb-false, leb-true, eqb-true, eq-eqb}
+use Rattle.std.proofs.Common.{◌≡◌, ◌≢◌, ℕ, ◌<◌, ◌≤◌, Bool, true, false, not, cond, ◌&&◌, List, [], ◌∷◌, ◌++◌, length, take, map, All, Option, Some, None, refl, sym, ap, subst, ◌∙◌, arith, append-nil, append_assoc, ltb-true, ltb-false, leb-true, eqb-true, eq-eqb}
 use Rattle.std.specs.Prelude.{◌==◌, nat_eq, nat_le, nat_lt}
 use Rattle.std.specs.List.{filter}
 use Rattle.std.specs.declared.cmp.Ordering.{Ordering}
@@ -30,6 +30,8 @@ use Rattle.row_epochs.proofs.WriteLaws.{ascends-filter}
 use Rattle.hot_keeper.specs.Windows.{is_in_window, window_keys, key_place, tells_key, keys_with, next_key_place}
 use Rattle.row_epochs.proofs.PieceWalks.{taken_all}
 use Rattle.hot_keeper.proofs.PieceLaws.{take-all}
+use Rattle.hot_keeper.specs.Skips.{IsNextLook}
+use Rattle.hot_keeper.proofs.StepLaws.{skip, none_from}
 use Rattle.hot_keeper.proofs.TimesLaws.{rows_from-test, from_All, first_All, first_not_before}
 
 -- ---- the keys of sorted changes
@@ -297,17 +299,20 @@ module _ (epoch : ℕ) (e : Entity) (first : List ℕ) (from to : ℕ) where
       let P = λ (x : Row). in_window x ≡ false in
       window_of-append (r ∷ []) rs ∙ (λ i. window_out r (All-head P r rs all) i ++ window_none rs (All-tail P r rs all) i)
 
-  agree_by : (q : Row → Bool) (r : Row) (rs : List Row) (t : Bool) → (t ≡ false → in_window r ≡ false) → window_of (filter q rs) ≡ window_of rs → window_of (cond t (r ∷ filter q rs) (filter q rs)) ≡ window_of (r ∷ rs)
-  agree_by q r rs true outside rest =
+  kept_by : (q : Row → Bool) (r : Row) (rs : List Row) (t : Bool) → (t ≡ false → window_of (r ∷ []) ≡ []) → window_of (filter q rs) ≡ window_of rs → window_of (cond t (r ∷ filter q rs) (filter q rs)) ≡ window_of (r ∷ rs)
+  kept_by q r rs true nothing rest =
       window_of-append (r ∷ []) (filter q rs) ∙ ap (λ (l : List Change). window_of (r ∷ []) ++ l) rest ∙ sym (window_of-append (r ∷ []) rs)
-  agree_by q r rs false outside rest =
-      rest ∙ sym (window_of-append (r ∷ []) rs ∙ ap (λ (l : List Change). l ++ window_of rs) (window_out r (outside refl)))
+  kept_by q r rs false nothing rest =
+      rest ∙ sym (window_of-append (r ∷ []) rs ∙ ap (λ (l : List Change). l ++ window_of rs) (nothing refl))
+
+  window_of-kept : (q : Row → Bool) (rs : List Row) → All (λ r. q r ≡ false → window_of (r ∷ []) ≡ []) rs → window_of (filter q rs) ≡ window_of rs
+  window_of-kept q [] all = refl
+  window_of-kept q (r ∷ rs) all =
+      let P = λ (x : Row). q x ≡ false → window_of (x ∷ []) ≡ [] in
+      kept_by q r rs (q r) (All-head P r rs all) (window_of-kept q rs (All-tail P r rs all))
 
   window_of-filter : (q : Row → Bool) (rs : List Row) → All (λ r. q r ≡ false → in_window r ≡ false) rs → window_of (filter q rs) ≡ window_of rs
-  window_of-filter q [] all = refl
-  window_of-filter q (r ∷ rs) all =
-      let P = λ (x : Row). q x ≡ false → in_window x ≡ false in
-      agree_by q r rs (q r) (All-head P r rs all) (window_of-filter q rs (All-tail P r rs all))
+  window_of-filter q rs all = window_of-kept q rs (λ i d below passed. window_out _ (all i d below passed))
 
   window_All : (P : Change → Type 0) (rs : List Row) → All (λ r. in_window r ≡ true → P (change_of r)) rs → All P (window_of rs)
   window_All P rs all =
@@ -318,8 +323,8 @@ module _ (epoch : ℕ) (e : Entity) (first : List ℕ) (from to : ℕ) where
   -- ---- the walk
 
   pub record KeyWalk (limit : ℕ) (rs : List Row) (place : RowId) (found : List (List ℕ)) : Type 0 where
-    pub entity : place.entity ≡ entity_number e
-    pub above : is_lt (slice_cmp nat_cmp place.key first) ≡ false
+    pub entity : entity_number e ≤ place.entity
+    pub above : place.entity ≡ entity_number e → is_lt (slice_cmp nat_cmp place.key first) ≡ false
     pub left : take limit (found ++ keys_of (window_of (rows_from place rs))) ≡ take limit (keys_of (window_of rs))
 
   abbrev start : RowId
@@ -342,8 +347,8 @@ module _ (epoch : ℕ) (e : Entity) (first : List ℕ) (from to : ℕ) where
 
   pub key_first : (limit last : ℕ) (h : Held) → AreVersions last h → KeyWalk limit h.rows start []
   key_first limit last h are = record {
-    entity = refl;
-    above = ap is_lt (tied_itself nat_list_cmp_total first);
+    entity = omega arith;
+    above = λ same. ap is_lt (tied_itself nat_list_cmp_total first);
     left =
         ap (λ (l : List Row). take limit (keys_of (window_of l))) (rows_from-test start h.rows)
         ∙ ap (λ (l : List Change). take limit (keys_of l)) (window_of-filter (λ x. not (is_before x.id start)) h.rows (λ i d below passed. early _ (are.versions i d below).entity (not_false _ passed)));
@@ -473,13 +478,17 @@ module _ (epoch : ℕ) (e : Entity) (first : List ℕ) (from to : ℕ) where
       → q ≡ next_key_place epoch from to r → is_before r.id q ≡ true → new ≡ found ++ keys_with epoch from to r → KeyWalk limit h.rows place found → KeyWalk limit h.rows q new
   key_on limit last h place r q found new are is entity small at after more walk =
       let not_before = first_not_before place h.rows r is in
-      let same : r.id.entity ≡ place.entity = entity ∙ sym walk.entity in
+      let place_up : place.entity ≤ r.id.entity = entity_not_down r.id place not_before in
+      let place_low : entity_number e ≤ place.entity = walk.entity in
+      let place_of_e : place.entity ≡ entity_number e = omega (arith, place_up, place_low, entity) in
+      let same : r.id.entity ≡ place.entity = entity ∙ sym place_of_e in
       let key : is_lt (slice_cmp nat_cmp r.id.key first) ≡ false =
-      not_below r.id.key place.key first (ge_first _ _ (keys_not_down r.id place not_before same)) walk.above in
+      not_below r.id.key place.key first (ge_first _ _ (keys_not_down r.id place not_before same)) (walk.above place_of_e) in
+      let on : q.entity ≡ entity_number e = place_entity q r (nat_lt r.id.tx from) (nat_lt r.id.tx to && not (is_seen epoch r)) at ∙ entity in
       let come = look_by last h place r q (nat_lt r.id.tx from) (nat_lt r.id.tx to) (is_seen epoch r) refl refl refl are is entity key small at after in
       record {
-        entity = place_entity q r (nat_lt r.id.tx from) (nat_lt r.id.tx to && not (is_seen epoch r)) at ∙ entity;
-        above = ap (λ (l : List ℕ). is_lt (slice_cmp nat_cmp l first)) (place_key q r (nat_lt r.id.tx from) (nat_lt r.id.tx to && not (is_seen epoch r)) at) ∙ key;
+        entity = omega (arith, on);
+        above = λ _. ap (λ (l : List ℕ). is_lt (slice_cmp nat_cmp l first)) (place_key q r (nat_lt r.id.tx from) (nat_lt r.id.tx to && not (is_seen epoch r)) at) ∙ key;
         left =
             ap (λ (l : List (List ℕ)). take limit (l ++ keys_of (window_of (rows_from q h.rows)))) (more ∙ ap (λ (t : Bool). found ++ cond (t && (nat_lt r.id.tx to && is_seen epoch r)) (r.id.key ∷ []) []) (le_not from r.id.tx))
             ∙ ap (take limit) (append_assoc found (cond (not (nat_lt r.id.tx from) && (nat_lt r.id.tx to && is_seen epoch r)) (r.id.key ∷ []) []) (keys_of (window_of (rows_from q h.rows)))
@@ -496,6 +505,55 @@ module _ (epoch : ℕ) (e : Entity) (first : List ℕ) (from to : ℕ) where
       place_key q r true u at = ap (λ (w : RowId). w.key) at
       place_key q r false true at = ap (λ (w : RowId). w.key) at
       place_key q r false false at = ap (λ (w : RowId). w.key) at
+
+  -- ---- looks that pass rows over
+
+  tells_from : (r : Row) → from ≤ r.id.tx → r.id.tx < to → is_seen epoch r ≡ true → tells_key epoch from to r ≡ true
+  tells_from r low high see = λ i. le-leb from r.id.tx low i && (lt-ltb r.id.tx to high i && see i)
+
+  untold_by : (r : Row) (s : Bool) → is_seen epoch r ≡ s → r.id.entity ≤ 6 → tells_key epoch from to r ≡ false → window_of (r ∷ []) ≡ []
+  untold_by r true see known untold =
+      window_out r (out r known (λ x. let told : tells_key epoch from to r ≡ true = tells_from r x.low x.high see in cc (told, untold)))
+  untold_by r false see known untold = window_unseen r see
+
+  -- the window is that of the rows that tell their keys
+  tells_only : (last : ℕ) (rs : List Row) → All (IsVersion last) rs → window_of (filter (tells_key epoch from to) rs) ≡ window_of rs
+  tells_only last rs fit = window_of-kept (tells_key epoch from to) rs (λ i d below untold. untold_by _ (is_seen epoch _) refl (fit i d below).entity untold)
+
+  -- the look goes on at the next place
+  skipped_on : (limit last : ℕ) (h : Held) (place next : RowId) (found : List (List ℕ)) → AreVersions last h → IsNextLook epoch from to h.rows place (Some next) → KeyWalk limit h.rows place found → KeyWalk limit h.rows next found
+  skipped_on limit last h place next found are skips walk =
+      let up : place.entity ≤ next.entity = entity_not_down next place skips.0 in
+      let low : entity_number e ≤ place.entity = walk.entity in
+      let same_window : window_of (rows_from place h.rows) ≡ window_of (rows_from next h.rows) =
+      sym (tells_only last (rows_from place h.rows) (fit_from last h place are))
+      ∙ ap (λ (l : List Row). window_of l) (skip (tells_key epoch from to) place next h.rows skips.0 skips.1)
+      ∙ tells_only last (rows_from next h.rows) (fit_from last h next are) in
+      record {
+        entity = omega (arith, up, low);
+        above = λ same.
+            let place_of_e : place.entity ≡ entity_number e = omega (arith, up, low, same) in
+            not_below next.key place.key first (ge_first _ _ (keys_not_down next place skips.0 (same ∙ sym place_of_e))) (walk.above place_of_e);
+        left = ap (λ (l : List Change). take limit (found ++ keys_of l)) (sym same_window) ∙ walk.left;
+      }
+
+  pub key_skip : (limit last : ℕ) (h : Held) (place : RowId) (look : Option RowId) (next : RowId) (found : List (List ℕ)) → AreVersions last h → look ≡ Some next → IsNextLook epoch from to h.rows place look → KeyWalk limit h.rows place found → KeyWalk limit h.rows next found
+  key_skip limit last h place look next found are is skips walk =
+      let F : Option RowId → Type 0 = λ o. IsNextLook epoch from to h.rows place o in
+      skipped_on limit last h place next found are (subst F is skips) walk
+
+  skipped_all : (limit last : ℕ) (h : Held) (place : RowId) (found : List (List ℕ)) → AreVersions last h → IsNextLook epoch from to h.rows place None → KeyWalk limit h.rows place found → take limit found ≡ take limit (keys_of (window_of h.rows))
+  skipped_all limit last h place found are skips walk =
+      let nothing : window_of (rows_from place h.rows) ≡ [] =
+      sym (tells_only last (rows_from place h.rows) (fit_from last h place are))
+      ∙ ap (λ (l : List Row). window_of l) (none_from (tells_key epoch from to) place h.rows skips) in
+      ap (take limit) (sym (append-nil found) ∙ ap (λ (l : List Change). found ++ keys_of l) (sym nothing)) ∙ walk.left
+
+  -- there is no next place
+  pub key_passed : (limit last : ℕ) (h : Held) (place : RowId) (look : Option RowId) (found : List (List ℕ)) → AreVersions last h → look ≡ None → IsNextLook epoch from to h.rows place look → KeyWalk limit h.rows place found → take limit found ≡ take limit (keys_of (window_of h.rows))
+  key_passed limit last h place look found are is skips walk =
+      let F : Option RowId → Type 0 = λ o. IsNextLook epoch from to h.rows place o in
+      skipped_all limit last h place found are (subst F is skips) walk
 
   pub key_full : (limit : ℕ) (rs : List Row) (place : RowId) (found : List (List ℕ)) → length found ≤ limit → limit ≤ length found → KeyWalk limit rs place found → found ≡ take limit (window_keys (changes_seen epoch rs) e first from to)
   key_full limit rs place found short full walk = sym (taken_all limit found (keys_of (window_of (rows_from place rs))) short full) ∙ walk.left

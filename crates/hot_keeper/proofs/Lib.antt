@@ -5,5 +5,6 @@ pub mod NoteLaws
 pub mod PieceLaws
 pub mod PruneLaws
 pub mod PruneLeft
+pub mod SkipLaws
 pub mod StepLaws
 pub mod TimesLaws

@@ -37,7 +37,7 @@ skip_by q p id r rs false true false e f k up all rest = ap (λ (b : Bool). cond
 skip_by q p id r rs false false w e f k up all rest = ap (λ (l : List Row). cond (q r) (r ∷ l) l) rest
 
 -- where no row that passes a test is between two places
-skip : (q : Row → Bool) (p id : RowId) (rs : List Row) → is_before id p ≡ false → All (λ r. q r ≡ true → is_before r.id p ≡ false → is_before r.id id ≡ false) rs → filter q (rows_from p rs) ≡ filter q (rows_from id rs)
+pub skip : (q : Row → Bool) (p id : RowId) (rs : List Row) → is_before id p ≡ false → All (λ r. q r ≡ true → is_before r.id p ≡ false → is_before r.id id ≡ false) rs → filter q (rows_from p rs) ≡ filter q (rows_from id rs)
 skip q p id [] up all = refl
 skip q p id (r ∷ rs) up all =
     let P = λ (x : Row). q x ≡ true → is_before x.id p ≡ false → is_before x.id id ≡ false in
@@ -48,11 +48,11 @@ none_by q p r rs true w e k never rest = rest
 none_by q p r rs false true e k never rest = absurd (never k e)
 none_by q p r rs false false e k never rest = ap (λ (b : Bool). cond b (r ∷ filter q (rows_from p rs)) (filter q (rows_from p rs))) k ∙ rest
 
-none : (q : Row → Bool) (p : RowId) (rs : List Row) → All (λ r. q r ≡ true → is_before r.id p ≡ false → ⊥) rs → filter q (rows_from p rs) ≡ []
-none q p [] all = refl
-none q p (r ∷ rs) all =
+pub none_from : (q : Row → Bool) (p : RowId) (rs : List Row) → All (λ r. q r ≡ true → is_before r.id p ≡ false → ⊥) rs → filter q (rows_from p rs) ≡ []
+none_from q p [] all = refl
+none_from q p (r ∷ rs) all =
     let P = λ (x : Row). q x ≡ true → is_before x.id p ≡ false → ⊥ in
-    none_by q p r rs (is_before r.id p) (q r) refl refl (All-head P r rs all) (none q p rs (All-tail P r rs all))
+    none_by q p r rs (is_before r.id p) (q r) refl refl (All-head P r rs all) (none_from q p rs (All-tail P r rs all))
 
 all_before_by : (p : RowId) (r : Row) (rs : List Row) (t : Bool) → is_before r.id p ≡ t → cond t (rows_from p rs) (r ∷ rows_from p rs) ≡ [] → (is_before r.id p ≡ true) × (rows_from p rs ≡ [])
 all_before_by p r rs true e is = (e, is)
@@ -147,7 +147,7 @@ module _ (epoch from to : ℕ) where
   left_last rs place (id ∷ ids) changes few left = absurd (omega (arith, few))
   left_last rs place [] changes few left =
       sym (append-nil changes)
-      ∙ ap (λ (l : List Row). changes ++ map change_of l) (sym (none (is_in_step epoch from to) place rs (λ i d below is after. none_contained _ (left.noted i d below is after))))
+      ∙ ap (λ (l : List Row). changes ++ map change_of l) (sym (none_from (is_in_step epoch from to) place rs (λ i d below is after. none_contained _ (left.noted i d below is after))))
       ∙ left.whole
 
   changes_by : (r : Row) (rs : List Row) (s w : Bool) → is_within_numbers from to (change_of r) ≡ w → map change_of (filter (is_in_step epoch from to) rs) ≡ filter (is_within_numbers from to) (changes_seen epoch rs)

@@ -16,6 +16,7 @@ use crate::ahead::{ReadAhead, keep_ahead};
 use crate::keys::keys_within;
 use crate::notes::{Notes, drop_below, note_batch};
 use crate::pruning::{Low, Pruned, kill_first, look_low};
+use crate::skips::{few_noted, kill_after};
 use crate::steps::changes_within;
 use crate::times::{times_down, times_up};
 use agg_model::{Act, Batch, Entity, Range, StepRows};
@@ -32,6 +33,8 @@ pub struct Hot<K: Keeper> {
     notes: Option<Notes>,
     /// The rows of the next prunes, once one has left some.
     ahead: Option<ReadAhead>,
+    /// The epoch at which rows were killed last, or a later one: those from it on see alive rows alone.
+    last_kill: u64,
 }
 
 impl<K: Keeper> Model for Hot<K> {
@@ -39,6 +42,7 @@ impl<K: Keeper> Model for Hot<K> {
     ghost use Rattle.row_epochs.specs.Versions.{Versions, AreVersions};
     ghost use Rattle.hot_keeper.specs.Notes.{AreNoted};
     ghost use Rattle.hot_keeper.specs.ReadAhead.{AreAhead};
+    ghost use Rattle.hot_keeper.specs.Skips.{AreKilledBy};
 
     ghost Value = { Versions };
 
@@ -46,7 +50,8 @@ impl<K: Keeper> Model for Hot<K> {
 
     ghost invariant = { λ h. IfSome h.rows.told (AreVersions h.rows.epoch)
         × IfSome h.rows.told (λ k. AreNoted h.notes k.rows)
-        × IfSome h.rows.told (λ k. AreAhead h.ahead k.rows) };
+        × IfSome h.rows.told (λ k. AreAhead h.ahead k.rows)
+        × IfSome h.rows.told (λ k. AreKilledBy h.last_kill k.rows) };
 }
 
 impl<K: Keeper> Hot<K> {
@@ -54,11 +59,12 @@ impl<K: Keeper> Hot<K> {
         ensures { result ≡ rows }
     {
         // That the rows are in order is a clause of this call.
-        let _present = rows.epoch();
+        let present = rows.epoch();
         Hot {
             rows,
             notes: None,
             ahead: None,
+            last_kill: present,
         }
     }
 
@@ -189,7 +195,17 @@ impl<K: Keeper> Hot<K> {
             from: tx_from,
             to: tx_to,
         };
-        keys_within(&mut self.rows, alloc, epoch, entity, from, numbers, limit)
+        let noted = few_noted(alloc, &self.notes, self.last_kill, epoch, numbers)?;
+        keys_within(
+            &mut self.rows,
+            &noted,
+            alloc,
+            epoch,
+            entity,
+            from,
+            numbers,
+            limit,
+        )
     }
 
     /// The changes of the step that the present epoch sees, sorted by entity, key and number.
@@ -243,7 +259,9 @@ impl<K: Keeper> Hot<K> {
             (λ h. OnOk result (does_prune tx floor limit h ≡ false)) }
         ensures cause { HasCause RowsError.Keeper self.old.faults self.new.faults result }
     {
+        let before = self.rows.epoch();
         let pruned = kill_first(&mut self.rows, &mut self.ahead, alloc, tx, floor, limit)?;
+        self.last_kill = kill_after(self.last_kill, before, self.rows.epoch());
         if pruned.left == 0 {
             drop_below(alloc, &mut self.notes, tx);
         }

@@ -1,15 +1,18 @@
 //! The keys of an entity that changed in a window.
 ghost use Rattle.std.specs.Prelude.{◌≡◌, ◌==◌, ◌&&◌, not, nat_lt, ◌<◌, ◌≤◌, ◌++◌, true, take, IfSome, IfOk, OnOk};
 ghost use Rattle.agg_outside.specs.Counts.{HasCause};
-ghost use Rattle.agg_outside.specs.Rows.{is_before};
+ghost use Rattle.std.specs.List.Sorted.{IsSorted};
+ghost use Rattle.agg_outside.specs.Rows.{id_cmp, is_before};
 ghost use Rattle.agg_model.specs.Entity.{entity_number};
 ghost use Rattle.row_epochs.specs.Errors.{IsUnworn};
 ghost use Rattle.row_epochs.specs.Seen.{is_seen};
 ghost use Rattle.row_epochs.specs.Places.{behind};
 ghost use Rattle.row_epochs.specs.Changes.{changes_seen};
 ghost use Rattle.row_epochs.specs.Versions.{AreVersions};
+ghost use Rattle.hot_keeper.specs.Skips.{AreAmong};
 ghost use Rattle.hot_keeper.specs.Windows.{window_keys, key_place, next_key_place, tells_key, keys_with};
 
+use crate::skips::next_look;
 use agg_model::{Entity, Range};
 use agg_outside::{Bytes, Keeper, Keys, Memory, Row, RowId};
 use row_epochs::{Rows, RowsError, behind, is_seen, place_at};
@@ -118,10 +121,12 @@ fn take_key(
     Ok(())
 }
 
-/// The first `limit` keys not below `from` of which the epoch sees a change in the range. Over a keeper
-/// that tells its rows the bound on the looks is never met: each is behind the one before.
+/// The first `limit` keys not below `from` of which the epoch sees a change in the range. Where there are
+/// ids of rows, which have all that tell such keys, rows that aren't among them are passed over. Over a
+/// keeper that tells its rows the bound on the looks is never met: each is behind the one before.
 pub fn keys_within<K: Keeper>(
     rows: &mut Rows<K>,
+    noted: &Option<Vec<RowId>>,
     alloc: Global,
     epoch: u64,
     entity: Entity,
@@ -129,7 +134,10 @@ pub fn keys_within<K: Keeper>(
     numbers: Range,
     limit: usize,
 ) -> Result<Keys, RowsError>
-    requires { IfSome rows.old.told (AreVersions rows.old.epoch) }
+    requires versions { IfSome rows.old.told (AreVersions rows.old.epoch) }
+    requires sorted { IfSome noted.now (λ l. IsSorted id_cmp l.items) }
+    requires among { IfSome rows.old.told
+        (λ h. IfSome noted.now (λ l. AreAmong epoch numbers.from numbers.to l.items h.rows)) }
     ensures keys { IfSome rows.old.told (λ h. IfOk result
         (λ keys. keys ≡ take limit (window_keys (changes_seen epoch h.rows) entity from.now numbers.from numbers.to))) }
     ensures same { rows.new ≡ record rows.old { faults = rows.new.faults } }
@@ -142,7 +150,11 @@ pub fn keys_within<K: Keeper>(
         if found.len() >= limit {
             return Ok(found);
         }
-        let next = rows.row_from(alloc, &place)?;
+        let look = next_look(alloc, noted, place)?;
+        let Some(start) = look else {
+            return Ok(found);
+        };
+        let next = rows.row_from(alloc, &start)?;
         let Some(row) = next else {
             return Ok(found);
         };

@@ -10,6 +10,7 @@ mod notes;
 mod pieces;
 mod pruning;
 mod shared;
+mod skips;
 mod steps;
 mod times;
 

@@ -14,6 +14,9 @@ use std::alloc::Global;
 use std::cmp::Ordering;
 use std::collections::BTreeSet;
 
+/// The most notes that a look goes over.
+const FEW: usize = 256;
+
 /// A row, ordered by the number of its change first.
 #[derive(Debug, Drop)]
 pub struct Note {
@@ -169,6 +172,16 @@ pub fn drop_below(alloc: Global, notes: &mut Option<Notes>, tx: u64)
     if let Ok(rest) = kept.split_off(&first) {
         *notes = Some(rest);
     }
+}
+
+/// Whether at most 256 rows are noted with numbers in the range.
+pub fn are_few(alloc: Global, notes: &Notes, numbers: Range) -> Result<bool, Memory>
+    requires { numbers.from ≤ numbers.to }
+{
+    let first = first_note(alloc, numbers.from)?;
+    let end = first_note(alloc, numbers.to)?;
+    let mut range = notes.range(&first..&end);
+    Ok(range.nth(FEW).is_none())
 }
 
 /// The noted rows with numbers in the range, in row order.
