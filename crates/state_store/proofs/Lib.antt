@@ -3,6 +3,8 @@ mod ViewLaws
 mod AcceptLaws
 mod SetLaws
 mod StepFiles
+mod PartFiles
 mod GroupsAfter
 mod SettlingLaws
+mod ResumeLaws
 mod NameOrder

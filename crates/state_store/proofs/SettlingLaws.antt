@@ -103,7 +103,7 @@ module _ {D K : Type 0} (old new : Store D K) (same : IsSettling old new) where
         sees = subst P (sym size) (sees_faults old.hot new.hot old.size (ap (λ (s : Store D K). s.hot) same));
       }
 
-  hot_same : (P : Versions → Type 0) → P (record old.hot { faults = new.hot.faults }) → P new.hot
+  pub hot_same : (P : Versions → Type 0) → P (record old.hot { faults = new.hot.faults }) → P new.hot
   hot_same P p = subst P (sym (ap (λ (s : Store D K). s.hot) same)) p
 
   -- the store where no group was taken up

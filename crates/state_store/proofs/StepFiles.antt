@@ -35,16 +35,16 @@ use Rattle.state_store.specs.Settling.{IsOfStep, IsNextStep}
 -- ---- the names of groups
 
 module _ {X Y : Type 0} (P : Y → Type 0) (f : X → Y) where
-  un_map : (xs : List X) → All P (map f xs) → All (λ x. P (f x)) xs
+  pub un_map : (xs : List X) → All P (map f xs) → All (λ x. P (f x)) xs
   un_map [] all = All-nil (λ x. P (f x))
   un_map (x ∷ xs) all = All-cons (λ x. P (f x)) x xs (All-head P (f x) (map f xs) all) (un_map xs (All-tail P (f x) (map f xs) all))
 
 module _ {X : Type 0} (P : X → Type 0) where
-  front_of : (xs ys : List X) → All P (xs ++ ys) → All P xs
+  pub front_of : (xs ys : List X) → All P (xs ++ ys) → All P xs
   front_of [] ys all = All-nil P
   front_of (x ∷ xs) ys all = All-cons P x xs (All-head P x (xs ++ ys) all) (front_of xs ys (All-tail P x (xs ++ ys) all))
 
-  back_of : (xs ys : List X) → All P (xs ++ ys) → All P ys
+  pub back_of : (xs ys : List X) → All P (xs ++ ys) → All P ys
   back_of [] ys all = all
   back_of (x ∷ xs) ys all = back_of xs ys (All-tail P x (xs ++ ys) all)
 
@@ -180,7 +180,7 @@ step_named step groups all =
 -- ---- a name is one of those that were written, or another
 
 module _ {P : Type 0} where
-  or_new : (new : List NewFile) (name : FileName) → (IsOther new (spelled name) → P) → ((n : NewFile) → Contains new n → spelled name ≡ spelled n.name → P) → P
+  pub or_new : (new : List NewFile) (name : FileName) → (IsOther new (spelled name) → P) → ((n : NewFile) → Contains new n → spelled name ≡ spelled n.name → P) → P
   or_new [] name other one = other (All-nil (IsOtherThan (spelled name)))
   or_new (n ∷ ns) name other one =
       decided (spelled name) (spelled n.name)
@@ -189,7 +189,7 @@ module _ {P : Type 0} where
       (λ rest. other (All-cons (IsOtherThan (spelled name)) n ns (differ, never_temporary name n.name) rest))
       (λ m within same. one m (Contains-append_right (n ∷ []) ns m within) same))
 
-  or_temporary : (new : List NewFile) (name : FileName) → (IsOther new (temporary_of name) → P) → ((n : NewFile) → Contains new n → temporary_of name ≡ temporary_of n.name → P) → P
+  pub or_temporary : (new : List NewFile) (name : FileName) → (IsOther new (temporary_of name) → P) → ((n : NewFile) → Contains new n → temporary_of name ≡ temporary_of n.name → P) → P
   or_temporary [] name other one = other (All-nil (IsOtherThan (temporary_of name)))
   or_temporary (n ∷ ns) name other one =
       decided (temporary_of name) (temporary_of n.name)
@@ -201,24 +201,24 @@ module _ {P : Type 0} where
 -- ---- what is kept
 
 -- the names of temporary files are those of the files
-temporary-injective : (name other : FileName) → is_name name ≡ true → is_name other ≡ true → temporary_of name ≡ temporary_of other → name ≡ other
+pub temporary-injective : (name other : FileName) → is_name name ≡ true → is_name other ≡ true → temporary_of name ≡ temporary_of other → name ≡ other
 unfolding spelled_on_disk
 temporary-injective name other is is_other same = spelled-injective name other is is_other (append_cancel_right (spelled name) (spelled other) (codes ".tmp") same)
 
-none_some : {A : Type 0} {x : A} → None ≡ Some x → ⊥
+pub none_some : {A : Type 0} {x : A} → None ≡ Some x → ⊥
 none_some e = cc
 
-some_is : {A : Type 0} {x y : A} → Some x ≡ Some y → x ≡ y
+pub some_is : {A : Type 0} {x y : A} → Some x ≡ Some y → x ≡ y
 some_is e = cc
 
-if_some : {A : Type 0} (P : A → Type 0) (o : Option A) → ((x : A) → o ≡ Some x → P x) → IfSome o P
+pub if_some : {A : Type 0} (P : A → Type 0) (o : Option A) → ((x : A) → o ≡ Some x → P x) → IfSome o P
 if_some P None h = tt
 if_some P (Some x) h = h x refl
 
-if_there : {A : Type 0} (P : A → Type 0) (o : Option A) (x : A) → o ≡ Some x → IfSome o P → P x
+pub if_there : {A : Type 0} (P : A → Type 0) (o : Option A) (x : A) → o ≡ Some x → IfSome o P → P x
 if_there P o x e h = subst (λ q. IfSome q P) e h
 
-if_none : {A : Type 0} (P : A → Type 0) (o : Option A) → o ≡ None → IfSome o P
+pub if_none : {A : Type 0} (P : A → Type 0) (o : Option A) → o ≡ None → IfSome o P
 if_none P o e = subst (λ q. IfSome q P) (sym e) tt
 
 pub keeps_all : (list : ChangeList) (names : List FileName) (now : Files) → All (MayStand list) names → HasExactly list names now → KeepsNamed list now
@@ -339,16 +339,16 @@ module _ (list : ChangeList) (step : ℕ) (below added : List GroupFiles) (next 
   abbrev new : List NewFile
   new = files_of_groups (step_groups list step)
 
-  same_files : files_of_groups added ≡ new
+  pub same_files : files_of_groups added ≡ new
   same_files = ap files_of_groups next.is
 
-  new_are : new_names new ≡ names_for (step_groups list step)
+  pub new_are : new_names new ≡ names_for (step_groups list step)
   new_are = step_is ∙ sym (names_of_step list step)
 
   step_ranges : All (λ (g : GroupFiles). g.range ≡ step_range step) (step_groups list step)
   step_ranges = All-map (λ (g : GroupFiles). g.range ≡ step_range step) (λ e. group_of list e (step_range step)) entities (λ k d below. refl)
 
-  new_named : All IsNamed (new_names new)
+  pub new_named : All IsNamed (new_names new)
   new_named =
       subst (All IsNamed) (sym new_are)
       (are_named (step_groups list step) (λ k d below. subst (λ r. is_aligned r ≡ true) (sym (step_ranges k d below)) (aligned_step step next.early)))
@@ -358,21 +358,21 @@ module _ (list : ChangeList) (step : ℕ) (below added : List GroupFiles) (next 
       un_map (λ (n : FileName). n.range ≡ step_range step) (λ (n : NewFile). n.name) new
       (subst (All (λ (n : FileName). n.range ≡ step_range step)) (sym new_are) (names_to (λ r. r ≡ step_range step) (step_groups list step) step_ranges))
 
-  is_new : All (λ (n : NewFile). IsNamed n.name) new
+  pub is_new : All (λ (n : NewFile). IsNamed n.name) new
   is_new = un_map IsNamed (λ (n : NewFile). n.name) new new_named
 
-  new_may : All (λ (n : NewFile). MayStand list n.name) new
+  pub new_may : All (λ (n : NewFile). MayStand list n.name) new
   new_may = λ k d below.
       let ends : (get_or new k d).name.range.to ≡ step + 1 = ap (λ (r : Range). r.to) (new_ranges k d below) in
       may_stand list (step + 1) (get_or new k d).name next.complete (is_new k d below) (omega (arith, ends))
 
-  small : step < 4097
+  pub small : step < 4097
   small = let early = next.early in omega (arith, early)
 
-  below_complete : step * list.size ≤ list.next
+  pub below_complete : step * list.size ≤ list.next
   below_complete = le_times step (step + 1) list.size list.next (omega arith) next.complete
 
-  below_names : All IsNamed (names_for below)
+  pub below_names : All IsNamed (names_for below)
   below_names = below_named step below small next.single
 
   earlier : All (λ (n : FileName). n.range.from < step) (names_for below)

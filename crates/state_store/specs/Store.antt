@@ -1,5 +1,6 @@
 -- Which list a store of versioned rows and of sets of groups holds, what its views see, and what each call keeps.
-use Rattle.std.specs.Prelude.{◌≡◌, ℕ, ◌+◌, ◌*◌, ◌<◌, ◌≤◌, ◌^◌, List, [], ◌∷◌, length, All, Option, None, IfSome, IfNone, IsSomeAnd, is_some, Result, IsErrOf}
+use Rattle.std.specs.Prelude.{◌≡◌, ◌⊎◌, ℕ, ◌+◌, ◌*◌, ◌<◌, ◌≤◌, ◌^◌, true, List, [], ◌∷◌, length, All, Contains, IsTrue}
+use Rattle.std.specs.Prelude.{Option, None, IfSome, IfNone, IsSomeAnd, is_some, Result, IsErrOf}
 use Rattle.std.specs.Arc.{arc_value}
 use Rattle.std.specs.FinMap.{get}
 use Rattle.std.specs.Option.{ForSome}
@@ -14,7 +15,9 @@ use Rattle.agg_model.specs.ChangeList.{ChangeList, IsChangeList, grown, next_of,
 use Rattle.agg_model.specs.Merged.{merged}
 use Rattle.agg_model.specs.declared.change.Change.{Change}
 use Rattle.merge_ranges.specs.declared.name.FileName.{FileName}
-use Rattle.collate_step.specs.Groups.{GroupFiles, AreGroupsBelow}
+use Rattle.merge_ranges.specs.Name.{is_name, spelled}
+use Rattle.merge_ranges.specs.CanonicalNames.{names_over}
+use Rattle.collate_step.specs.Groups.{GroupFiles, AreGroupsBelow, step_range}
 use Rattle.row_epochs.specs.Changes.{change_of, changes_seen}
 use Rattle.row_epochs.specs.Versions.{Versions}
 use Rattle.visible_files.specs.declared.held.HeldGroup.{HeldGroup}
@@ -22,7 +25,7 @@ use Rattle.visible_files.specs.Held.{count_of, named_once}
 use Rattle.visible_files.specs.Sets.{SetOf}
 use Rattle.window_reads.specs.Standing.{Stand}
 use Rattle.epoch_window.specs.Seen.{told_from}
-use Rattle.agg_core.specs.Files.{HasExactly, HasFile, KeepsNamed, SameOutside}
+use Rattle.agg_core.specs.Files.{HasExactly, HasFile, IsFileOf, KeepsNamed, MayStand, SameOutside, temporary_of}
 use Rattle.agg_core.specs.Rows.{HasRows, said_by, said_of}
 use Rattle.group_files.specs.NewFiles.{names_for}
 use Rattle.state_store.specs.declared.accepting.Accepted.{Accepted}
@@ -93,6 +96,36 @@ pub record Keeps {D K : Type 0} (disk : DiskGhosts D) (store : Store D K) (list 
   pub groups : AreGroupsBelow list store.sets.current.end store.sets.current.groups
   pub single : All (IsStepBelow store.sets.current.end) store.sets.current.groups
   pub stand : ForSome (disk.files store.disk) (IsLeft list store.sets.current.groups)
+
+-- the names of the files of a step
+abbrev pub step_names : ℕ → List FileName
+step_names step = names_over (step_range step ∷ [])
+
+-- a disk has these files of the list, and of the grammar else only whole files of the list that have one of the next names,
+-- and temporary names of such files
+pub record HasPart (list : ChangeList) (names next : List FileName) (now : Files) : Type 0 where
+  pub held : All (HasFile list now) names
+  pub named : (name : FileName) → IsTrue (is_name name) → IfSome (get now (spelled name)) (IsFileOf list name)
+  pub only : (name : FileName) → IsTrue (is_name name) →
+      IfSome (get now (spelled name)) (λ _. Contains names name ⊎ Contains next name)
+  pub temporary : (name : FileName) → IsTrue (is_name name) →
+      IfSome (get now (temporary_of name)) (λ _. Contains next name × MayStand list name)
+
+-- there is a temporary name of at most one file
+abbrev pub HasOneTemporary : Files → Type 0
+HasOneTemporary now = (a b : FileName) → IsTrue (is_name a) → IsTrue (is_name b) →
+    is_some (get now (temporary_of a)) ≡ true → is_some (get now (temporary_of b)) ≡ true → a ≡ b
+
+-- the ghosts of a disk that tells nothing
+abbrev pub untold : {D : Type 0} → DiskGhosts D → DiskGhosts D
+untold disk = record disk { files = λ _. None }
+
+-- The store holds the list, but that some files of the first step without groups may be on the disk, whole, and temporary
+-- names of them: what faults leave, however often a settle has stopped.
+pub record Resumes {D K : Type 0} (disk : DiskGhosts D) (store : Store D K) (list : ChangeList) : Type 0 where
+  pub holds : Holds (untold disk) store list
+  pub part : ForSome (disk.files store.disk)
+      (HasPart list (names_for store.sets.current.groups) (step_names (steps_held store)))
 
 -- the set that a view has pinned
 abbrev pub set_of : View → SetOf GroupFiles

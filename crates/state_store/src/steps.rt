@@ -11,7 +11,7 @@ ghost use Rattle.collate_step.specs.Groups.{GroupFiles, AreGroupsBelow, step_gro
 ghost use Rattle.visible_files.specs.Sets.{IsFileSet};
 ghost use Rattle.group_files.specs.NewFiles.{names_for};
 ghost use Rattle.row_epochs.specs.Versions.{AreVersions};
-ghost use Rattle.state_store.specs.Store.{SeesAll, IsLeft};
+ghost use Rattle.state_store.specs.Store.{SeesAll, IsLeft, HasPart, HasOneTemporary, step_names};
 ghost use Rattle.state_store.specs.Settling.{IsOfStep, CanAdd, Follows, IsNextStep};
 
 use crate::stop::Stop;
@@ -175,6 +175,18 @@ pub(crate) fn publish_step<D: Disk>(
         IsNextStep list step below (map (λ g. arc_value g) groups.now) →
         ForSome (D.files disk.old) (HasExactly list (names_for below)) →
         OnErr result (ForSome (D.files disk.new) (IsLeft list below)) }
+    ensures one_temporary { (list : ChangeList) (below : List GroupFiles) →
+        IsNextStep list step below (map (λ g. arc_value g) groups.now) →
+        ForSome (D.files disk.old) (HasExactly list (names_for below)) →
+        OnErr result (ForSome (D.files disk.new) HasOneTemporary) }
+    ensures resumed { (list : ChangeList) (below : List GroupFiles) →
+        IsNextStep list step below (map (λ g. arc_value g) groups.now) →
+        ForSome (D.files disk.old) (HasPart list (names_for below) (step_names step)) → OnOk result
+        (ForSome (D.files disk.new) (HasExactly list (names_for below ++ names_for (map (λ g. arc_value g) groups.now)))) }
+    ensures stopped { (list : ChangeList) (below : List GroupFiles) →
+        IsNextStep list step below (map (λ g. arc_value g) groups.now) →
+        ForSome (D.files disk.old) (HasPart list (names_for below) (step_names step)) →
+        OnErr result (ForSome (D.files disk.new) (HasPart list (names_for below) (step_names step))) }
     ensures outside { SameOutside (D.files disk.old) (D.files disk.new) }
     ensures cause { HasCause DiskError.Failed (D.faults disk.old) (D.faults disk.new) result }
 {

@@ -1,13 +1,13 @@
 //! The accepted changes, as versioned rows of a keeper and groups of files on a disk.
-ghost use Rattle.std.specs.Prelude.{◌≡◌, [], ◌∷◌, ◌*◌, ◌+◌, ◌<◌, ◌≤◌, ◌^◌, ℕ, List, map, IfOk, IfErr, OnErr, IsSomeAnd};
+ghost use Rattle.std.specs.Prelude.{◌≡◌, [], ◌∷◌, ◌*◌, ◌+◌, ◌<◌, ◌≤◌, ◌^◌, ℕ, List, map, IfOk, IfErr, OnOk, OnErr, IsSomeAnd};
 ghost use Rattle.std.specs.Option.{ForSome};
 ghost use Rattle.agg_model.specs.ChangeList.{ChangeList};
 ghost use Rattle.merge_ranges.specs.declared.name.FileName.{FileName};
 ghost use Rattle.merge_ranges.specs.Name.{spelled};
-ghost use Rattle.visible_files.specs.Held.{count_of};
+ghost use Rattle.visible_files.specs.Held.{count_of, named_once};
 ghost use Rattle.group_files.specs.NewFiles.{files_of_groups, new_names};
 ghost use Rattle.state_store.specs.declared.view.View.{View};
-ghost use Rattle.state_store.specs.Store.{IsStore, Holds, Sees, HasView, Goes, ArePinned, HasNoFile, set_of, no_changes};
+ghost use Rattle.state_store.specs.Store.{IsStore, Holds, Resumes, Sees, HasView, Goes, ArePinned, HasNoFile, set_of, no_changes};
 
 use crate::view::View;
 use agg_outside::{Disk, Keeper, Memory, Names};
@@ -97,12 +97,15 @@ impl<D: Disk, K: Keeper> Store<D, K> {
             IfOk result (λ v. Sees self.new.hot self.new.size v list) }
         ensures pinned { (views : List View) → ArePinned self.old.sets.held views →
             IfOk result (λ v. ArePinned self.new.sets.held (v ∷ views)) }
+        ensures counts { OnOk result ((n : FileName) →
+            count_of self.new.sets.held n ≡ count_of self.old.sets.held n + named_once self.old.sets.current.ids n) }
         ensures has { (most : ℕ) → IsStore most self.old → IfOk result (λ v. HasView self.new v) }
         ensures unpinned { OnErr result (self.new.sets.held ≡ self.old.sets.held) }
         ensures current { self.new.sets.current ≡ self.old.sets.current }
         ensures others { self.new ≡ record self.old { sets = self.new.sets } }
         ensures sound { (most : ℕ) → IsStore most self.old → IsStore most self.new }
         ensures holds { (list : ChangeList) → Holds D.Disk self.old list → Holds D.Disk self.new list }
+        ensures resumes { (list : ChangeList) → Resumes D.Disk self.old list → Resumes D.Disk self.new list }
         ensures goes { Goes D.Disk self.old self.new }
     {
         let set = self.sets.pin()?;
@@ -118,10 +121,13 @@ impl<D: Disk, K: Keeper> Store<D, K> {
         requires { ArePinned self.old.sets.held (view ∷ []) }
         ensures pinned { (views : List View) → ArePinned self.old.sets.held (view ∷ views) →
             ArePinned self.new.sets.held views }
+        ensures counts { (n : FileName) →
+            count_of self.new.sets.held n + named_once (set_of view).ids n ≡ count_of self.old.sets.held n }
         ensures current { self.new.sets.current ≡ self.old.sets.current }
         ensures others { self.new ≡ record self.old { sets = self.new.sets } }
         ensures sound { (most : ℕ) → IsStore most self.old → IsStore most self.new }
         ensures holds { (list : ChangeList) → Holds D.Disk self.old list → Holds D.Disk self.new list }
+        ensures resumes { (list : ChangeList) → Resumes D.Disk self.old list → Resumes D.Disk self.new list }
         ensures goes { Goes D.Disk self.old self.new }
     {
         let View { set, .. } = view;
