@@ -6,6 +6,7 @@ use std::ops::Bound::{Excluded, Included, Unbounded};
 
 const PAGE: usize = 100;
 const PRUNED: usize = 1000;
+const LAST: u64 = 100;
 
 type Map = BTreeMap<(u8, Vec<u8>, u64, u64), (u64, u8, Vec<u8>)>;
 
@@ -81,6 +82,12 @@ fn main() {
                         let mut keys: Vec<Vec<u8>> = found.take(PAGE).map(|(id, _)| id.1.clone()).collect();
                         keys.dedup();
                         sum += keys.iter().map(|key| key[0] as u64).sum::<u64>();
+                    }
+                    "window" => {
+                        let last = count.saturating_sub(LAST)..count;
+                        let mut keys: Vec<Vec<u8>> = last.map(key_of).filter(|other| *other >= key).collect();
+                        keys.sort();
+                        sum += keys.iter().take(PAGE).map(|key| key[0] as u64).sum::<u64>();
                     }
                     "views" => {
                         let high = Excluded((1, vec![], 0, 0));

@@ -19,6 +19,9 @@ const PRUNED: usize = 1000;
 /// The keys that one call answers, and the rows of one view.
 const PAGE: usize = 100;
 
+/// The last numbers, which a small window has.
+const LAST: u64 = 100;
+
 // The key of a change: different numbers have different keys, spread over all that eight bytes can be.
 fn key_of(number: u64) -> [u8; 8] {
     number.wrapping_mul(0x9e37_79b9_7f4a_7c15).to_be_bytes()
@@ -123,7 +126,14 @@ fn times(hot: &mut Hot<TreeKeeper>, alloc: Global, count: u64, looks: u64) -> Re
     Ok(sum)
 }
 
-fn keys(hot: &mut Hot<TreeKeeper>, alloc: Global, count: u64, looks: u64) -> Result<u64, RowsError>
+// Pages of the keys that changed from a number on.
+fn keys(
+    hot: &mut Hot<TreeKeeper>,
+    alloc: Global,
+    count: u64,
+    looks: u64,
+    first: u64,
+) -> Result<u64, RowsError>
     requires { hot.old.told ≡ None }
 {
     let present = hot.epoch();
@@ -132,12 +142,33 @@ fn keys(hot: &mut Hot<TreeKeeper>, alloc: Global, count: u64, looks: u64) -> Res
     for _ in 0..looks {
         random = next_random(random);
         let from = key_of(place_in(random, count));
-        let found = hot.keys(alloc, present, Entity::Accounts, &from, 0, u64::MAX, PAGE)?;
+        let found = hot.keys(
+            alloc,
+            present,
+            Entity::Accounts,
+            &from,
+            first,
+            u64::MAX,
+            PAGE,
+        )?;
         for key in found.as_slice() {
             sum = sum.wrapping_add(key.as_slice().first().copied().unwrap_or(0) as u64);
         }
     }
     Ok(sum)
+}
+
+// Pages of the keys that changed at the last numbers, beside all others; the rows are noted by a first step.
+fn window(
+    hot: &mut Hot<TreeKeeper>,
+    alloc: Global,
+    count: u64,
+    looks: u64,
+) -> Result<u64, RowsError>
+    requires { hot.old.told ≡ None }
+{
+    let _first = hot.step_rows(alloc, 0, 1)?;
+    keys(hot, alloc, count, looks, count.saturating_sub(LAST))
 }
 
 fn views(hot: Hot<TreeKeeper>, alloc: Global, count: u64, looks: u64) -> Result<u64, RowsError>
@@ -202,7 +233,8 @@ fn sum_over(alloc: Global, part: &str, count: u64, more: u64) -> Result<Option<u
         "steps" => Ok(Some(steps(&mut hot, alloc, count, more)?)),
         "last" => Ok(Some(last(&mut hot, alloc, count, more)?)),
         "times" => Ok(Some(times(&mut hot, alloc, count, more)?)),
-        "keys" => Ok(Some(keys(&mut hot, alloc, count, more)?)),
+        "keys" => Ok(Some(keys(&mut hot, alloc, count, more, 0)?)),
+        "window" => Ok(Some(window(&mut hot, alloc, count, more)?)),
         "views" => Ok(Some(views(hot, alloc, count, more)?)),
         "low" => Ok(Some(low(&mut hot, alloc, count, more)?)),
         "prunes" => Ok(Some(prunes(&mut hot, alloc, count, more)?)),
