@@ -6,6 +6,8 @@ mod place;
 mod shared;
 mod sql_keeper;
 mod table;
+#[cfg(test)]
+mod tests;
 
 pub use dir_disk::DirDisk;
 pub use place::{id_at, orders_places, place_of};

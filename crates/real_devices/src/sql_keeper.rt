@@ -90,7 +90,7 @@ impl<T: Table> SqlKeeper<T> {
     }
 }
 
-impl<T: Table + Send> Keeper for SqlKeeper<T> {
+impl<T: Table> Keeper for SqlKeeper<T> {
     ghost faults = { λ k. k };
 
     ghost held = { λ _. None };
