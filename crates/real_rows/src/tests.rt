@@ -1,6 +1,6 @@
 use crate::SqlTable;
 use agg_outside::{Bytes, Keeper, KeeperError, Memory, Row, RowId, RowWrite};
-use real_devices::SqlKeeper;
+use real_devices::{SqlKeeper, Table};
 use std::alloc::Global;
 use std::fs;
 use std::process::Abort;
@@ -42,6 +42,16 @@ fn writes_of(alloc: Global, count: u8) -> Result<Vec<RowWrite>, Memory> {
     Ok(writes)
 }
 
+// The last of them can't be made where there are so many rows.
+fn writes_that_fail(alloc: Global, count: u8) -> Result<Vec<RowWrite>, Memory> {
+    let mut writes = Vec::new(alloc);
+    writes.push(RowWrite::Floor(9))?;
+    writes.push(RowWrite::Remove(scattered(alloc, 0)?))?;
+    writes.push(RowWrite::Insert(row_of(alloc, count)?))?;
+    writes.push(RowWrite::Kill(scattered(alloc, count.wrapping_add(1))?, 5))?;
+    Ok(writes)
+}
+
 fn sorted_ids(alloc: Global, count: u8) -> Result<Vec<RowId>, Memory> {
     let mut ids = Vec::new(alloc);
     for n in 0..count {
@@ -51,113 +61,122 @@ fn sorted_ids(alloc: Global, count: u8) -> Result<Vec<RowId>, Memory> {
     Ok(ids)
 }
 
-fn first_id(alloc: Global) -> Result<RowId, Memory> {
-    Ok(RowId {
+// One life of a keeper: it is made, called and let go.
+fn apply<T: Table>(alloc: Global, table: T, writes: &[RowWrite]) -> Result<(), KeeperError> {
+    SqlKeeper::new(table).apply(alloc, writes)
+}
+
+fn floor_in<T: Table>(table: T) -> Result<u64, KeeperError> {
+    SqlKeeper::new(table).floor()
+}
+
+fn ids_in<T: Table>(alloc: Global, table: T, limit: usize) -> Result<Vec<RowId>, KeeperError> {
+    let first = RowId {
         entity: 0,
         key: Bytes::of(alloc, b"")?,
         tx: 0,
         born: 0,
-    })
+    };
+    let rows = SqlKeeper::new(table).scan_some(alloc, &first, limit)?;
+    let mut ids = Vec::new(alloc);
+    for row in rows.into_vec() {
+        ids.push(row.id).map_err(|_| KeeperError::Memory)?;
+    }
+    Ok(ids)
 }
 
-const ROWS: &str = "real_rows_order";
+// Whether each id is found at its place, and the one before it by a look back.
+fn finds_each<T: Table>(alloc: Global, table: T, ids: &[RowId]) -> Result<bool, KeeperError> {
+    let mut keeper = SqlKeeper::new(table);
+    let mut last: Option<&RowId> = None;
+    for id in ids {
+        let found = keeper.seek(alloc, id)?;
+        let before = keeper.seek_back(alloc, id)?;
+        if !is_row_of(&found, Some(id)) || !is_row_of(&before, last) {
+            return Ok(false);
+        }
+        last = Some(id);
+    }
+    Ok(true)
+}
+
+fn is_row_of(row: &Option<Row>, id: Option<&RowId>) -> bool {
+    match (row, id) {
+        (Some(row), Some(id)) => row.id == *id,
+        (None, None) => true,
+        _ => false,
+    }
+}
+
+const ORDER: &str = "real_rows_order/rows.db";
 
 #[test]
 fn rows_in_any_order_are_there_in_order_in_the_next_life(rt: HostRuntime) -> Result<(), Fail> {
     let alloc = rt.alloc();
-    let _ = fs::remove_dir_all(&rt, ROWS);
-    fs::create_dir(&rt, ROWS)?;
-    let mut keeper = SqlKeeper::new(SqlTable::at(&rt, "real_rows_order/rows.db"));
+    let _ = fs::remove_dir_all(&rt, "real_rows_order");
+    fs::create_dir(&rt, "real_rows_order")?;
     let writes = writes_of(alloc, 200)?;
-    keeper.apply(alloc, writes.as_slice())?;
-    drop(keeper);
-    let mut again = SqlKeeper::new(SqlTable::at(&rt, "real_rows_order/rows.db"));
-    let ids = sorted_ids(alloc, 200)?;
-    let rows = again.scan_some(alloc, &first_id(alloc)?, 201)?;
-    assert_eq!(rt; rows.len(), 200);
-    for (row, id) in rows.as_slice().iter().zip(ids.as_slice()) {
-        assert!(rt; row.id == *id);
-    }
-    assert_eq!(rt; again.scan_some(alloc, &first_id(alloc)?, 5)?.len(), 5);
-    assert_eq!(rt; again.floor(), Ok(7));
-    drop(again);
-    fs::remove_dir_all(&rt, ROWS)?;
+    apply(alloc, SqlTable::at(&rt, ORDER), writes.as_slice())?;
+    let ids = ids_in(alloc, SqlTable::at(&rt, ORDER), 201)?;
+    assert!(rt; ids == sorted_ids(alloc, 200)?);
+    assert_eq!(rt; ids_in(alloc, SqlTable::at(&rt, ORDER), 5)?.len(), 5);
+    assert_eq!(rt; floor_in(SqlTable::at(&rt, ORDER)), Ok(7));
+    fs::remove_dir_all(&rt, "real_rows_order")?;
     Ok(())
 }
 
-const LOOKS: &str = "real_rows_looks";
+const LOOKS: &str = "real_rows_looks/rows.db";
 
 #[test]
 fn a_look_finds_the_row_at_its_place_and_the_one_before(rt: HostRuntime) -> Result<(), Fail> {
     let alloc = rt.alloc();
-    let _ = fs::remove_dir_all(&rt, LOOKS);
-    fs::create_dir(&rt, LOOKS)?;
-    let mut keeper = SqlKeeper::new(SqlTable::at(&rt, "real_rows_looks/rows.db"));
+    let _ = fs::remove_dir_all(&rt, "real_rows_looks");
+    fs::create_dir(&rt, "real_rows_looks")?;
     let writes = writes_of(alloc, 40)?;
-    keeper.apply(alloc, writes.as_slice())?;
+    apply(alloc, SqlTable::at(&rt, LOOKS), writes.as_slice())?;
     let ids = sorted_ids(alloc, 40)?;
-    let mut last: Option<&RowId> = None;
-    for id in ids.as_slice() {
-        let found = keeper.seek(alloc, id)?;
-        assert!(rt; found.is_some_and(|row| row.id == *id));
-        match (keeper.seek_back(alloc, id)?, last) {
-            (Some(row), Some(last)) => assert!(rt; row.id == *last),
-            (found, last) => assert!(rt; found.is_none() && last.is_none()),
-        }
-        last = Some(id);
-    }
-    drop(keeper);
-    fs::remove_dir_all(&rt, LOOKS)?;
+    assert!(rt; finds_each(alloc, SqlTable::at(&rt, LOOKS), ids.as_slice())?);
+    fs::remove_dir_all(&rt, "real_rows_looks")?;
     Ok(())
 }
 
-const PARTS: &str = "real_rows_parts";
+const PARTS: &str = "real_rows_parts/rows.db";
 
 #[test]
-fn an_apply_that_fails_in_the_middle_leaves_none_of_it(rt: HostRuntime) -> Result<(), Fail> {
+fn an_apply_that_fails_at_its_end_leaves_none_of_it(rt: HostRuntime) -> Result<(), Fail> {
     let alloc = rt.alloc();
-    let _ = fs::remove_dir_all(&rt, PARTS);
-    fs::create_dir(&rt, PARTS)?;
-    let mut keeper = SqlKeeper::new(SqlTable::at(&rt, "real_rows_parts/rows.db"));
-    let mut writes = Vec::new(alloc);
-    writes.push(RowWrite::Insert(row_of(alloc, 1)?))?;
-    keeper.apply(alloc, writes.as_slice())?;
-    writes.clear();
-    writes.push(RowWrite::Floor(9))?;
-    writes.push(RowWrite::Remove(scattered(alloc, 1)?))?;
-    writes.push(RowWrite::Insert(row_of(alloc, 2)?))?;
-    writes.push(RowWrite::Kill(scattered(alloc, 3)?, 5))?;
+    let _ = fs::remove_dir_all(&rt, "real_rows_parts");
+    fs::create_dir(&rt, "real_rows_parts")?;
+    let writes = writes_of(alloc, 9)?;
+    apply(alloc, SqlTable::at(&rt, PARTS), writes.as_slice())?;
+    let more = writes_that_fail(alloc, 9)?;
     assert_eq!(rt;
-        keeper.apply(alloc, writes.as_slice()),
+        apply(alloc, SqlTable::at(&rt, PARTS), more.as_slice()),
         Err(KeeperError::Failed)
     );
-    assert_eq!(rt; keeper.floor(), Ok(0));
-    let rows = keeper.scan_some(alloc, &first_id(alloc)?, 9)?;
-    assert_eq!(rt; rows.len(), 1);
-    drop(keeper);
-    fs::remove_dir_all(&rt, PARTS)?;
+    assert_eq!(rt; floor_in(SqlTable::at(&rt, PARTS)), Ok(7));
+    let ids = ids_in(alloc, SqlTable::at(&rt, PARTS), 99)?;
+    assert!(rt; ids == sorted_ids(alloc, 9)?);
+    fs::remove_dir_all(&rt, "real_rows_parts")?;
     Ok(())
 }
 
-const TEXT: &str = "real_rows_text";
+const TEXT: &str = "real_rows_text/rows.db";
 
 #[test]
 fn a_file_of_text_is_refused_and_left(rt: HostRuntime) -> Result<(), Fail> {
     let alloc = rt.alloc();
-    let _ = fs::remove_dir_all(&rt, TEXT);
-    fs::create_dir(&rt, TEXT)?;
-    fs::write(&rt, "real_rows_text/rows.db", "Some text, and no table.")?;
-    let mut keeper = SqlKeeper::new(SqlTable::at(&rt, "real_rows_text/rows.db"));
-    let mut writes = Vec::new(alloc);
-    writes.push(RowWrite::Floor(9))?;
+    let _ = fs::remove_dir_all(&rt, "real_rows_text");
+    fs::create_dir(&rt, "real_rows_text")?;
+    fs::write(&rt, TEXT, "Some text, and no table.")?;
+    let writes = writes_of(alloc, 1)?;
     assert_eq!(rt;
-        keeper.apply(alloc, writes.as_slice()),
+        apply(alloc, SqlTable::at(&rt, TEXT), writes.as_slice()),
         Err(KeeperError::Failed)
     );
-    assert_eq!(rt; keeper.floor(), Err(KeeperError::Failed));
-    let text = fs::read(&rt, "real_rows_text/rows.db")?;
+    assert_eq!(rt; floor_in(SqlTable::at(&rt, TEXT)), Err(KeeperError::Failed));
+    let text = fs::read(&rt, TEXT)?;
     assert!(rt; text.as_slice() == b"Some text, and no table.".as_slice());
-    drop(keeper);
-    fs::remove_dir_all(&rt, TEXT)?;
+    fs::remove_dir_all(&rt, "real_rows_text")?;
     Ok(())
 }
