@@ -9,7 +9,7 @@ ghost use Rattle.agg_session.specs.State.{number_refusal};
 ghost use Rattle.agg_session.specs.Links.{open_of, transactions_without, IsPlaceOf};
 
 use crate::limits::Limits;
-use agg_model::{Act, Batch, Change};
+use agg_model::{Batch, Change};
 use agg_outside::{ListOf, Memory};
 use line_words::Reply;
 use state_store::View;
@@ -90,7 +90,7 @@ impl Link {
         ensures unchanged { IfOk result (λ could. OnFalse could (self.new ≡ self.old)) }
         ensures err { OnErr result (self.new ≡ self.old) }
     {
-        let more = content_of_change(&change);
+        let more = change.content();
         if self.content + more > limits.content {
             return Ok(false);
         }
@@ -166,18 +166,6 @@ fn number_refusal(far: u64, number: u64, current: Option<u64>) -> Option<Reply>
         return Some(Reply::ErrOrder(current, number));
     }
     None
-}
-
-fn content_of_change(change: &Change) -> u64
-    requires key { length change.now.key ≤ 64 }
-    requires value { value_length change.now.act ≤ 65535 }
-    ensures { result ≡ content_of (change.now ∷ []) }
-{
-    let value = match &change.act {
-        Act::Put(value) => value.as_slice().len(),
-        Act::Del | Act::Mark => 0,
-    };
-    change.key.as_slice().len() as u64 + value as u64 + 64
 }
 
 // The place of the open transaction of this number.

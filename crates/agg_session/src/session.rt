@@ -1,12 +1,15 @@
 //! A session between two lines, and what each line makes of it.
-ghost use Rattle.std.specs.Prelude.{◌≡◌, ℕ, ◌+◌, ◌<◌, ◌≤◌, ◌^◌, IfOk, OnOk, OnErr, IsTrue};
+ghost use Rattle.std.specs.Prelude.{◌≡◌, ℕ, ◌+◌, ◌<◌, ◌≤◌, ◌^◌, Some, IfOk, OnOk, OnErr, IsTrue};
 ghost use Rattle.agg_model.specs.Batch.{IsKey, HasValue, fits_entity};
 ghost use Rattle.agg_core.specs.Names.{complete_steps};
 ghost use Rattle.line_words.specs.Requests.{IsRequest, request_of};
 ghost use Rattle.line_words.specs.declared.reply.Reply.TheVariants as says;
-ghost use Rattle.state_store.specs.Store.{ArePinned, Goes, steps_held};
+ghost use Rattle.merge_ranges.specs.declared.name.FileName.{FileName};
+ghost use Rattle.visible_files.specs.Held.{count_of, named_once};
+ghost use Rattle.state_store.specs.Store.{ArePinned, Goes, set_of, steps_held};
 ghost use Rattle.agg_session.specs.declared.limits.Limits.{Limits as TheLimits};
-ghost use Rattle.agg_session.specs.Links.{OpensNow, views_of};
+ghost use Rattle.agg_session.specs.declared.link.Transaction.{Transaction};
+ghost use Rattle.agg_session.specs.Links.{OpensNow, open_of, views_of};
 ghost use Rattle.agg_session.specs.State.{State, outcome, number_on, change_on, batch_refusal, commit_on, open_on, close_on};
 ghost use Rattle.agg_session.specs.State.{settle_on, list_at};
 ghost use Rattle.agg_session.specs.Answer.{short_effect, read_outcome};
@@ -138,6 +141,9 @@ impl<D: Disk, K: Keeper> Session<D, K> {
         ensures exact { (s : State) → Stands D.Disk self.old s →
             Answers D.Disk self.new result (close_on number (list_at number s.transactions) s) }
         ensures store { self.new.store ≡ record self.old.store { sets = self.new.store.sets } }
+        // The groups that it pinned are counted once less, and no others.
+        ensures unpins { (t : Transaction) → Some t ≡ open_of number self.old.link.transactions → (n : FileName) →
+            count_of self.new.store.sets.held n + named_once (set_of t.view).ids n ≡ count_of self.old.store.sets.held n }
         ensures goes { Goes D.Disk self.old.store self.new.store }
     {
         let Some(transaction) = self.link.close_transaction(number) else {
