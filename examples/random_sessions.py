@@ -100,10 +100,11 @@ def difference(program, words, size, text, count):
     """What isn't as the definitions say, or None; `count` counts what was compared."""
     replies, session = replies_to(text, size)
     status, output, said, files = run(program, words, text)
+    ended = [] if status == 0 and not said else [f"status {status}, and said was {shown(said)}"]
     if output != text_of(line for reply in replies for line in reply):
-        return first_difference(text, replies, output)
-    if status != 0 or said:
-        return f"status {status} and {shown(said)}"
+        ended.insert(0, first_difference(text, replies, output))
+    if ended:
+        return "; ".join(ended)
     count.update(kind_of(line) for reply in replies for line in reply)
     if files is None:
         return None

@@ -17,6 +17,8 @@ BAD_ENTITIES = [b"", b"account", b"Accounts", b"logaddr", b"tracesfroms", b"rece
 BAD_LIMITS = [b"0", b"1001", b"-", b"", b"10000000000", b"-1"]
 BAD_DIRECTIONS = [b"", b"up", b"ASC", b"as", b"descend", b"-"]
 BAD_FORMS = [b"", b"unwind", b"PUT", b"puts", b"get", b"Commit", b"end", b"\xff\xfe", b"pu"]
+# Words that some form takes somewhere.
+ANY_WORDS = [it.encode() for it in [*FORMS, *ENTITIES, "asc", "desc", "-", "0", "1", "10", "1000", "1001", "00", "AA"]]
 
 
 def hexed(source, text):
@@ -227,6 +229,8 @@ class Maker:
         form = words[0].decode("latin-1")
         kinds = ["form", *FORMS.get(form, "").split()]
         kind = kinds[at] if at < len(kinds) else "form"
+        if source.random() < 0.3:
+            return source.choice(ANY_WORDS)
         if kind == "form":
             return source.choice(BAD_FORMS)
         if kind == "entity":
