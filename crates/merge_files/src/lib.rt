@@ -12,3 +12,6 @@ mod whole;
 
 pub use error::MergeError;
 pub use whole::merge;
+
+#[cfg(test)]
+mod tests;
