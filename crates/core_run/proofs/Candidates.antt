@@ -1,5 +1,5 @@
 -- The first added name tells of which step, or of which entity and range, a publish may be.
-use Rattle.std.proofs.Common.{◌≡◌, ◌⊎◌, inl, inr, Bool, true, false, ◌&&◌, ℕ, zero, suc, ◌+◌, ◌-◌, ◌*◌, ◌/◌, ◌<◌, ◌≤◌, List, [], ◌∷◌, length, refl, sym, ◌∙◌, ap, subst, arith}
+use Rattle.std.proofs.Common.{◌≡◌, inl, inr, Bool, true, false, ◌&&◌, ℕ, ◌+◌, ◌-◌, ◌*◌, ◌/◌, ◌<◌, ◌≤◌, List, [], ◌∷◌, length, refl, sym, ◌∙◌, ap, subst, arith}
 use Rattle.std.proofs.lemmas.Bool.{false≢true}
 use Rattle.std.proofs.Math.Nat.{div-le_of_le-mul}
 use Rattle.std.specs.Prelude.{Option, Some, None, IsTrue}
@@ -13,7 +13,7 @@ use Rattle.agg_model.specs.declared.entity.FileKind.TheVariants.{Ef}
 use Rattle.merge_ranges.specs.declared.name.FileName.{FileName}
 use Rattle.merge_ranges.specs.Cut.{is_aligned, end_from}
 use Rattle.merge_ranges.specs.Name.{is_name, has_kind, spelled}
-use Rattle.core_machine.specs.Texts.{has, SameNames, AreAmong, with_names, entity_texts, all_texts}
+use Rattle.core_machine.specs.Texts.{SameNames, AreAmong, with_names, entity_texts, all_texts}
 use Rattle.core_machine.specs.Publishing.{range_at, has_group, is_end, parts_of, IsCollation, IsMerge, IsPublish}
 use Rattle.core_machine.proofs.Inside.{In}
 use Rattle.core_machine.proofs.GroupTexts.{named, has-group, from-group}

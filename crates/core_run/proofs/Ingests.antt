@@ -1,6 +1,6 @@
 -- Which batches may come, and which have no repeats.
-use Rattle.std.proofs.Common.{◌≡◌, ◌≢◌, ◌⊎◌, inl, inr, Bool, true, false, cond, ◌||◌, not, ℕ, zero, suc, ◌+◌, ◌-◌, ◌<◌, ◌≤◌, List, [], ◌∷◌, ◌++◌, length, get_or, drop, All, refl, sym, ◌∙◌, ap, subst, arith, append_assoc, append-nil, add-one, drop-cons}
-use Rattle.std.specs.Prelude.{Option, Some, None, nat_lt}
+use Rattle.std.proofs.Common.{◌≡◌, ◌≢◌, ◌⊎◌, inl, inr, Bool, true, false, cond, not, ℕ, suc, ◌+◌, ◌-◌, ◌<◌, ◌≤◌, List, [], ◌∷◌, ◌++◌, length, All, refl, sym, ◌∙◌, ap, subst, arith, append_assoc, append-nil}
+use Rattle.std.specs.Prelude.{Option, Some, None}
 use Rattle.std.specs.Option.{option_or}
 use Rattle.std.proofs.lemmas.List.Elements.{All-head, All-tail}
 use Rattle.std.proofs.lemmas.Bool.Decides.{nat_tests}
@@ -11,7 +11,6 @@ use Rattle.agg_model.specs.declared.check.BatchError.{BatchError}
 use Rattle.agg_model.specs.declared.check.BatchError.TheVariants.{WrongAct, KeyLength, ValueLength}
 use Rattle.agg_model.specs.Batch.{AscendFrom, HasNoRepeats, IsBatch, IsChange, HasValue}
 use Rattle.agg_model.specs.BatchRefusals.{is_outside, value_refusal, shape_refusal, number_refusal, refusal_from, first_refusal}
-use Rattle.agg_model.specs.ChangeList.{next_of}
 use Rattle.agg_model.specs.Merged.{put_over, merged_from, merged}
 use Rattle.agg_model.specs.Place.{place_of, is_same_place}
 use Rattle.agg_model.proofs.PlaceOrder.{is_same_place-true}

@@ -6,3 +6,5 @@ pub mod Ingests
 pub mod StepLaws
 pub mod Empty
 pub mod Callers
+pub mod StandsFor
+pub mod CountLaws

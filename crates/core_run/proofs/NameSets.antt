@@ -1,16 +1,15 @@
 -- Laws of sets of names.
-use Rattle.std.proofs.Common.{◌≡◌, Bool, true, false, not, cond, ◌&&◌, ◌||◌, ℕ, List, [], ◌∷◌, ◌++◌, map, refl, sym, ◌∙◌, ap, subst, get_or, length, ◌<◌, ◌+◌, suc, drop, add-one, drop-cons}
+use Rattle.std.proofs.Common.{◌≡◌, Bool, true, false, not, cond, ◌&&◌, ◌||◌, ℕ, List, [], ◌∷◌, ◌++◌, refl, sym, ◌∙◌, ap, subst, get_or, length, ◌<◌, ◌+◌, suc, drop, add-one, drop-cons}
 use Rattle.std.specs.Cmp.{both_ways}
 use Rattle.std.specs.Ordering.{nat_cmp}
 use Rattle.std.specs.Cmp.Lexicographic.{slice_cmp}
 use Rattle.std.specs.BTreeMap.{is_at}
 use Rattle.std.specs.BTreeSet.{insert_key}
 use Rattle.std.specs.List.Sorted.{IsStrictlySortedBy}
-use Rattle.agg_model.specs.declared.entity.Entity.{Entity}
 use Rattle.agg_model.specs.declared.entity.Entity.TheVariants.{Accounts, Storage, Code, LogAddrs, LogTopics, TracesFrom, TracesTo}
 use Rattle.agg_model.specs.declared.entity.Range.{Range}
 use Rattle.merge_ranges.specs.declared.name.FileName.{FileName}
-use Rattle.merge_ranges.specs.CanonicalNames.{group_names, entity_names}
+use Rattle.merge_ranges.specs.CanonicalNames.{entity_names}
 use Rattle.core_machine.specs.Texts.{has, SameNames, IsInForm, with_names, without_names, texts_of, entity_texts, all_texts}
 use Rattle.core_machine.proofs.TextLaws.{same_text, itself, has-with, has-without, form-with, form-without, one-form}
 

@@ -1,6 +1,5 @@
 -- Where an open row stands.
-use Rattle.std.proofs.Common.{◌≡◌, Bool, true, false, cond, ◌||◌, ℕ, zero, suc, ◌<◌, List, [], ◌∷◌, ◌++◌, map, length, get_or, take, drop, refl, sym, ◌∙◌, ap, subst, arith, append_assoc}
-use Rattle.std.specs.Prelude.{remove}
+use Rattle.std.proofs.Common.{◌≡◌, Bool, true, false, cond, ◌||◌, ℕ, zero, suc, ◌<◌, List, [], ◌∷◌, ◌++◌, length, get_or, refl, sym, ◌∙◌, ap, arith, append_assoc}
 use Rattle.core_machine.specs.declared.machine.Opening.{Opening}
 use Rattle.core_machine.specs.Sound.{is_row, has_row}
 use Rattle.core_machine.specs.Entries.{without_row}

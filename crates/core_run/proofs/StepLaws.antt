@@ -1,25 +1,19 @@
 -- One entry: when it is possible, and what stands after it.
-use Rattle.std.proofs.Common.{◌≡◌, ◌≢◌, Bool, true, false, ℕ, zero, suc, ◌+◌, ◌/◌, ◌<◌, ◌≤◌, List, [], ◌∷◌, ◌++◌, length, get_or, take, drop, refl, sym, ◌∙◌, ap, subst, arith, add-one}
+use Rattle.std.proofs.Common.{◌≡◌, Bool, true, false, ℕ, zero, suc, ◌+◌, ◌/◌, ◌<◌, List, [], ◌∷◌, ◌++◌, length, get_or, take, sym, ◌∙◌, ap, subst, arith, add-one}
 use Rattle.std.proofs.lemmas.Bool.{false≢true}
-use Rattle.std.specs.Prelude.{Option, Some, None, IfSome, remove}
-use Rattle.std.specs.List.{slice_get}
+use Rattle.std.specs.Prelude.{Option, Some, IfSome}
 use Rattle.std.proofs.lemmas.Option.{slice_get-get_or}
 use Rattle.std.specs.Bool.{Decides}
 use Rattle.core_machine.specs.declared.entry.Entry.{Entry}
 use Rattle.core_machine.specs.declared.machine.Machine.{Machine}
-use Rattle.core_machine.specs.declared.machine.Opening.{Opening}
-use Rattle.core_machine.specs.Texts.{has, SameNames, IsInForm, with_names, all_texts}
+use Rattle.core_machine.specs.Texts.{SameNames, IsInForm, with_names, all_texts}
 use Rattle.merge_ranges.specs.Cut.{canon}
 use Rattle.merge_ranges.specs.CanonicalNames.{canonical_names}
 use Rattle.agg_model.specs.declared.entity.Range.{Range}
-use Rattle.core_machine.specs.Sound.{has_row, in_rows}
-use Rattle.core_machine.specs.Entries.{IsPossible, ArePossible, after, replay, IsFirstImpossible, IsSettled, IsOpen, IsUnseen, after_open, after_close}
+use Rattle.core_machine.specs.Entries.{IsPossible, ArePossible, after, replay, IsFirstImpossible, IsSettled}
 use Rattle.core_machine.proofs.Kept.{possible-append, replay-append}
 use Rattle.core_run.specs.declared.running.Row.{Row}
-use Rattle.core_run.specs.declared.running.Running.{Running}
-use Rattle.core_run.specs.Running.{machine_of, opening_of, openings}
-use Rattle.core_run.specs.Rows.{IsPlaceOf}
-use Rattle.core_run.specs.Runs.{Steps}
+use Rattle.core_run.specs.Running.{openings}
 use Rattle.core_run.proofs.NameSets.{same-sets, sets-same, set-of-form}
 use Rattle.core_run.proofs.RowPlaces.{openings-push}
 

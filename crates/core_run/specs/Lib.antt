@@ -4,3 +4,5 @@ pub mod Publishes
 pub mod Ingests
 pub mod Runs
 pub mod Legal
+pub mod Consistent
+pub mod Counts

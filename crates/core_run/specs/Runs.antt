@@ -1,5 +1,5 @@
 -- What one entry did to the running machine.
-use Rattle.std.specs.Prelude.{◌≡◌, Bool, true, false, ℕ, List}
+use Rattle.std.specs.Prelude.{◌≡◌, Bool, true, false, List}
 use Rattle.core_machine.specs.declared.entry.Entry.{Entry}
 use Rattle.core_machine.specs.declared.machine.Machine.{Machine}
 use Rattle.core_machine.specs.Entries.{IsPossible, after, IsFirstImpossible}

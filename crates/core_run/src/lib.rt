@@ -2,6 +2,7 @@
 #![tactic(auto)]
 
 mod batches;
+mod counts;
 mod error;
 mod laws;
 mod names;
@@ -13,7 +14,7 @@ mod shared;
 mod steps;
 
 pub use error::CoreError;
-pub use laws::bytes_laws;
+pub use laws::{bytes_laws, consistent_laws};
 pub use run::run_core;
 pub use shared::shares_core;
 

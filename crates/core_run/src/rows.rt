@@ -1,12 +1,10 @@
 //! The open rows.
 ghost use Rattle.std.specs.Prelude.{◌≡◌, false, OnSome, IfSome, IsNone};
-ghost use Rattle.core_machine.specs.Sound.{is_row, has_row, in_rows};
+ghost use Rattle.core_machine.specs.Sound.{is_row, has_row};
 ghost use Rattle.core_run.specs.Rows.{IsPlaceOf};
 ghost use Rattle.core_run.specs.Running.{opening_of, openings};
 
-use crate::names::has_name;
 use crate::running::Row;
-use agg_outside::Bytes;
 
 fn is_row(row: &Row, caller: u32, number: u64) -> bool
     ensures { result ≡ is_row caller number (opening_of row.now) }
@@ -33,18 +31,6 @@ pub fn is_open(rows: &[Row], caller: u32, number: u64) -> bool
 {
     for row in rows {
         if is_row(row, caller, number) {
-            return true;
-        }
-    }
-    false
-}
-
-/// Whether the name is in an open row: one look into each row.
-pub fn is_in_rows(rows: &[Row], name: &Bytes) -> bool
-    ensures { result ≡ in_rows (openings rows.now) name.now }
-{
-    for row in rows {
-        if has_name(&row.names, name) {
             return true;
         }
     }

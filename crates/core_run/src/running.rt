@@ -3,8 +3,10 @@ ghost use Rattle.std.specs.Prelude.{◌≡◌, [], All, IfOk, OnOk, map};
 ghost use Rattle.core_machine.specs.declared.machine.Opening.{Opening};
 ghost use Rattle.core_machine.specs.Sound.{IsSound};
 ghost use Rattle.core_machine.specs.Texts.{IsInForm};
+ghost use Rattle.core_run.specs.Counts.{IsCounted};
 ghost use Rattle.core_run.specs.Running.{machine_of, opening_of, openings};
 
+use crate::counts::{Counts, counts_of};
 use crate::names::{NameSet, list_of, set_of};
 use agg_model::Batch;
 use agg_outside::{ListOf, Memory};
@@ -27,6 +29,8 @@ pub struct Running {
     pub next: u64,
     pub size: u64,
     pub rows: Vec<Row>,
+    /// How many of the rows have each name.
+    pub counts: Counts,
     pub present: NameSet,
     pub visible: NameSet,
 }
@@ -59,7 +63,8 @@ fn rows_of(alloc: Global, opened: OpenRows) -> Result<Vec<Row>, Memory>
 /// The machine, ready to run.
 pub fn running_of(alloc: Global, machine: Machine) -> Result<Running, Memory>
     requires { IsSound machine }
-    ensures { IfOk result (λ running. machine_of running ≡ machine) }
+    ensures is { IfOk result (λ running. machine_of running ≡ machine) }
+    ensures counted { IfOk result IsCounted }
 {
     let Machine {
         changes,
@@ -70,6 +75,7 @@ pub fn running_of(alloc: Global, machine: Machine) -> Result<Running, Memory>
         visible,
     } = machine;
     let rows = rows_of(alloc, opened)?;
+    let counts = counts_of(alloc, rows.as_slice())?;
     let present = set_of(alloc, &present)?;
     let visible = set_of(alloc, &visible)?;
     Ok(Running {
@@ -77,6 +83,7 @@ pub fn running_of(alloc: Global, machine: Machine) -> Result<Running, Memory>
         next,
         size,
         rows,
+        counts,
         present,
         visible,
     })
@@ -120,6 +127,7 @@ pub fn machine_of(alloc: Global, running: Running) -> Result<Machine, Memory>
         next,
         size,
         rows,
+        counts: _,
         present,
         visible,
     } = running;

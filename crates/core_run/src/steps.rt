@@ -1,17 +1,19 @@
 //! One entry: whether it is possible, and what stands after it.
-ghost use Rattle.std.specs.Prelude.{◌≡◌, [], ◌∷◌, ℕ, All, IfOk};
+ghost use Rattle.std.specs.Prelude.{◌≡◌, [], ◌∷◌, ℕ, All, IfOk, OnOk};
 ghost use Rattle.std.specs.Bool.{Decides};
 ghost use Rattle.core_machine.specs.declared.entry.Entry.TheVariants.{Ingest, Open, Close, Publish};
 ghost use Rattle.core_machine.specs.declared.entry.Entry.TheVariants.{Stray, Sweep, Settled};
 ghost use Rattle.core_machine.specs.Entries.{IsUnseen, IsStrayName, IsSweep, IsSettled};
-ghost use Rattle.core_machine.specs.Sound.{IsSound};
-ghost use Rattle.core_run.specs.Running.{machine_of};
+ghost use Rattle.core_machine.specs.Sound.{IsSound, in_rows};
+ghost use Rattle.core_run.specs.Counts.{IsCounted};
+ghost use Rattle.core_run.specs.Running.{machine_of, openings};
 ghost use Rattle.core_run.specs.Runs.{Steps};
 
 use crate::batches::{append, is_batch, next_after, without_repeats};
+use crate::counts::{count_names, count_of, uncount_names};
 use crate::names::{add_names, are_same, has_name, names_over, remove_name, remove_names, set_of};
 use crate::publish::is_publish;
-use crate::rows::{is_in_rows, is_open, place_of_row};
+use crate::rows::{is_open, place_of_row};
 use crate::running::{Row, Running};
 use agg_model::{Batch, STEPS_MOST};
 use agg_outside::{Bytes, Memory, Names};
@@ -21,9 +23,11 @@ use std::alloc::Global;
 
 // The changes are accepted, if the batch may come and has no repeats.
 fn ingest(alloc: Global, running: &mut Running, batch: &Batch) -> Result<bool, Memory>
-    requires { IsSound (machine_of running.old) }
-    ensures { (caller : ℕ) → IfOk result
+    requires sound { IsSound (machine_of running.old) }
+    requires counted { IsCounted running.old }
+    ensures is { (caller : ℕ) → IfOk result
         (Steps (machine_of running.old) (Ingest caller batch.now) (machine_of running.new)) }
+    ensures counted { OnOk result (IsCounted running.new) }
 {
     if batch.len() == 0 {
         return Ok(false);
@@ -49,8 +53,10 @@ fn open(
     number: u64,
     names: &Names,
 ) -> Result<bool, Memory>
-    requires { IsSound (machine_of running.old) }
-    ensures { IfOk result (Steps (machine_of running.old) (Open caller number names.now) (machine_of running.new)) }
+    requires sound { IsSound (machine_of running.old) }
+    requires counted { IsCounted running.old }
+    ensures is { IfOk result (Steps (machine_of running.old) (Open caller number names.now) (machine_of running.new)) }
+    ensures counted { OnOk result (IsCounted running.new) }
 {
     if is_open(running.rows.as_slice(), caller, number) {
         return Ok(false);
@@ -59,6 +65,7 @@ fn open(
     if !are_same(&names, &running.visible) {
         return Ok(false);
     }
+    count_names(alloc, &mut running.counts, &names)?;
     running.rows.push(Row {
         caller,
         number,
@@ -70,12 +77,15 @@ fn open(
 
 // The row is closed, if it is open.
 fn close(running: &mut Running, caller: u32, number: u64) -> bool
-    ensures { Steps (machine_of running.old) (Close caller number) (machine_of running.new) result }
+    requires { IsCounted running.old }
+    ensures is { Steps (machine_of running.old) (Close caller number) (machine_of running.new) result }
+    ensures counted { IsCounted running.new }
 {
     let Some(i) = place_of_row(running.rows.as_slice(), caller, number) else {
         return false;
     };
-    let _row = running.rows.remove(i);
+    let row = running.rows.remove(i);
+    uncount_names(&mut running.counts, row.names);
     true
 }
 
@@ -86,9 +96,11 @@ fn publish(
     added: &Names,
     replaced: &Names,
 ) -> Result<bool, Memory>
-    requires { IsSound (machine_of running.old) }
-    ensures { (caller : ℕ) → IfOk result
+    requires sound { IsSound (machine_of running.old) }
+    requires counted { IsCounted running.old }
+    ensures is { (caller : ℕ) → IfOk result
         (Steps (machine_of running.old) (Publish caller added.now replaced.now) (machine_of running.new)) }
+    ensures counted { OnOk result (IsCounted running.new) }
 {
     let may = is_publish(
         alloc,
@@ -107,18 +119,28 @@ fn publish(
     Ok(true)
 }
 
+// Whether the name is in an open row: one look, however many rows are open.
+fn is_in_row(running: &Running, name: &Bytes) -> bool
+    requires { IsCounted running.now }
+    ensures { result ≡ in_rows (openings running.now.rows.items) name.now }
+{
+    count_of(&running.counts, name) > 0
+}
+
 // Whether the name is neither visible nor in an open row.
 fn is_unseen(running: &Running, name: &Bytes) -> bool
+    requires { IsCounted running.now }
     ensures { Decides result (IsUnseen (machine_of running.now) name.now) }
 {
     if has_name(&running.visible, name) {
         return false;
     }
-    !is_in_rows(running.rows.as_slice(), name)
+    !is_in_row(running, name)
 }
 
 // Whether the name is that of a file or a temporary one.
 fn is_stray_name(running: &Running, name: &Bytes) -> bool
+    requires { IsCounted running.now }
     ensures { Decides result (IsStrayName (machine_of running.now) name.now) }
 {
     if !is_unseen(running, name) {
@@ -131,6 +153,7 @@ fn is_stray_name(running: &Running, name: &Bytes) -> bool
 }
 
 fn are_stray_names(running: &Running, names: &Names) -> bool
+    requires { IsCounted running.now }
     ensures { Decides result (All (IsStrayName (machine_of running.now)) names.now) }
 {
     for name in names.as_slice() {
@@ -143,8 +166,10 @@ fn are_stray_names(running: &Running, names: &Names) -> bool
 
 // The names are present, if they may be.
 fn stray(alloc: Global, running: &mut Running, names: &Names) -> Result<bool, Memory>
-    ensures { (caller : ℕ) → IfOk result
+    requires { IsCounted running.old }
+    ensures is { (caller : ℕ) → IfOk result
         (Steps (machine_of running.old) (Stray caller names.now) (machine_of running.new)) }
+    ensures counted { OnOk result (IsCounted running.new) }
 {
     if !are_stray_names(running, names) {
         return Ok(false);
@@ -154,6 +179,7 @@ fn stray(alloc: Global, running: &mut Running, names: &Names) -> Result<bool, Me
 }
 
 fn may_sweep(running: &Running, name: &Bytes) -> bool
+    requires { IsCounted running.now }
     ensures { Decides result (IsSweep (machine_of running.now) name.now) }
 {
     if !has_name(&running.present, name) {
@@ -164,7 +190,9 @@ fn may_sweep(running: &Running, name: &Bytes) -> bool
 
 // The name isn't present any more, if nobody sees it.
 fn sweep(running: &mut Running, name: &Bytes) -> bool
-    ensures { (caller : ℕ) → Steps (machine_of running.old) (Sweep caller name.now) (machine_of running.new) result }
+    requires { IsCounted running.old }
+    ensures is { (caller : ℕ) → Steps (machine_of running.old) (Sweep caller name.now) (machine_of running.new) result }
+    ensures counted { IsCounted running.new }
 {
     if !may_sweep(running, name) {
         return false;
@@ -188,17 +216,21 @@ fn is_settled(alloc: Global, running: &Running, names: &Names) -> Result<bool, M
 }
 
 fn settled(alloc: Global, running: &mut Running, names: &Names) -> Result<bool, Memory>
-    requires { IsSound (machine_of running.old) }
-    ensures { (caller : ℕ) → IfOk result
+    requires sound { IsSound (machine_of running.old) }
+    requires counted { IsCounted running.old }
+    ensures is { (caller : ℕ) → IfOk result
         (Steps (machine_of running.old) (Settled caller names.now) (machine_of running.new)) }
+    ensures counted { OnOk result (IsCounted running.new) }
 {
     is_settled(alloc, running, names)
 }
 
 /// Takes the entry, if it is possible.
 pub fn step(alloc: Global, running: &mut Running, entry: &Entry) -> Result<bool, Memory>
-    requires { IsSound (machine_of running.old) }
-    ensures { IfOk result (Steps (machine_of running.old) entry.now (machine_of running.new)) }
+    requires sound { IsSound (machine_of running.old) }
+    requires counted { IsCounted running.old }
+    ensures is { IfOk result (Steps (machine_of running.old) entry.now (machine_of running.new)) }
+    ensures counted { OnOk result (IsCounted running.new) }
 {
     match entry {
         Entry::Ingest { caller: _, batch } => ingest(alloc, running, batch),

@@ -1,6 +1,4 @@
 use Rattle.std.proofs.Common.{◌≡◌, drop, map}
-use Rattle.agg_model.specs.declared.entity.FileKind.{FileKind}
-use Rattle.merge_ranges.specs.declared.name.FileName.{FileName}
 use Rattle.merge_ranges.specs.CanonicalNames.{group_names}
 use Rattle.core_machine.specs.Texts.{with_names, texts_of}
 use Rattle.core_machine.proofs.GroupTexts.{named}

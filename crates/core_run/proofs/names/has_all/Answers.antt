@@ -1,4 +1,4 @@
-use Rattle.std.proofs.Common.{◌≡◌, true, false, List, ℕ, ◌+◌, drop, sym, ◌∙◌, ap, subst, rules, arith}
+use Rattle.std.proofs.Common.{◌≡◌, true, false, ◌+◌, drop, sym, ◌∙◌, subst, rules, arith}
 use Rattle.core_machine.specs.Texts.{has}
 use Rattle.core_run.proofs.NameSets.{drop-here, among-step, in-rest, at-head}
 use Rattle.core_run.proofs.names.has_all.Goals as goal

@@ -1,4 +1,4 @@
-use Rattle.std.proofs.Common.{◌≡◌, ◌&&◌, not, List, ℕ, ◌+◌, ◌≤◌, length, drop, sym, ◌∙◌, ap, arith}
+use Rattle.std.proofs.Common.{◌&&◌, not, ◌+◌, ◌≤◌, length, drop, sym, ◌∙◌, ap, arith}
 use Rattle.std.proofs.lemmas.List.{drop_all}
 use Rattle.core_machine.specs.Texts.{has}
 use Rattle.core_run.proofs.NameSets.{drop-here, without-step, without-done}

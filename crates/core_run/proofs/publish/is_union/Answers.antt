@@ -1,4 +1,4 @@
-use Rattle.std.proofs.Common.{◌≡◌, true, ◌<◌, ◌≤◌, length, rules, arith, subst}
+use Rattle.std.proofs.Common.{◌≡◌, true, ◌<◌, ◌≤◌, length, rules, arith}
 use Rattle.std.proofs.lemmas.Bool.{false≢true}
 use Rattle.core_run.proofs.Candidates.{not-reached, not-several, union-decides}
 use Rattle.core_run.proofs.publish.is_union.Goals as goal

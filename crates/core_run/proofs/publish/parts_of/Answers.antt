@@ -1,5 +1,5 @@
-use Rattle.std.proofs.Common.{◌≡◌, true, ◌+◌, ◌-◌, ◌++◌, ◌<◌, sym, ◌∙◌, ap, rules, arith, lt-ltb}
-use Rattle.std.specs.Prelude.{Some, nat_lt}
+use Rattle.std.proofs.Common.{◌≡◌, ◌+◌, ◌-◌, ◌++◌, ◌<◌, sym, ◌∙◌, ap, arith, lt-ltb}
+use Rattle.std.specs.Prelude.{Some}
 use Rattle.merge_ranges.specs.Cut.{end_from}
 use Rattle.core_machine.specs.Publishing.{range_at, size_from, parts_from, parts_of}
 use Rattle.core_run.proofs.Looks.{parts-step, end-push}

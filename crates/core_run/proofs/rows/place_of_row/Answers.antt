@@ -1,4 +1,4 @@
-use Rattle.std.proofs.Common.{◌≡◌, true, ◌<◌, length, sym, ◌∙◌, ap, arith}
+use Rattle.std.proofs.Common.{◌<◌, length, sym, ◌∙◌, ap, arith}
 use Rattle.core_machine.specs.Sound.{is_row}
 use Rattle.core_run.specs.declared.running.Row.{Row}
 use Rattle.core_run.specs.Running.{opening_of}

@@ -1,4 +1,3 @@
-use Rattle.std.proofs.Common.{◌≤◌, length}
 use Rattle.core_run.proofs.RowPlaces.{ArePassed}
 use Rattle.core_run.proofs.rows.place_of_row.Given as goal
 

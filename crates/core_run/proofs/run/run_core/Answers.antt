@@ -1,5 +1,4 @@
 use Rattle.std.proofs.Common.{◌≡◌, true, false, Bool, take, sym, ◌∙◌, ap, subst, rules, arith, ◌+◌}
-use Rattle.core_machine.specs.declared.machine.Machine.{Machine}
 use Rattle.core_machine.specs.Sound.{IsSound}
 use Rattle.core_machine.specs.Entries.{IsFirstImpossible}
 use Rattle.core_machine.proofs.Kept.{kept-all}
@@ -8,8 +7,8 @@ use Rattle.core_run.specs.Runs.{Steps}
 use Rattle.core_run.proofs.StepLaws.{may-next, is-next, first-refused}
 use Rattle.core_run.proofs.run.run_core.Goals as goal
 
-pub step-requires : goal.step-requires
-step-requires c =
+pub step-requires-clause-sound : goal.step-requires-clause-sound
+step-requires-clause-sound c =
     let inv = c.loop-entry.invariant in
     subst IsSound (sym inv.is) (kept-all c.args.start (take c.loop-entry.entry-index c.args.entries.now) c.requires inv.may)
 
@@ -22,7 +21,7 @@ returns-then-not-taken-clause-err c =
     let entry = c.entry-item.result in
     let m = machine_of c.loop-entry.running in
     let off : c.in_ok-taken.taken ≡ false = first_of (search rules, grind arith) in
-    let step : Steps m entry (machine_of c.step.new.running) false = subst (λ (b : Bool). Steps m entry (machine_of c.step.new.running) b) off c.in_ok-taken.ensures in
+    let step : Steps m entry (machine_of c.step.new.running) false = subst (λ (b : Bool). Steps m entry (machine_of c.step.new.running) b) off c.in_ok-taken.ensures.is in
     subst (IsFirstImpossible start entries) (sym inv.at) (first-refused start entries i entry c.loop-entry-test.true c.entry-item.is m inv.is inv.may step)
 
 pub loop-entry-preserved : goal.loop-entry-preserved
@@ -35,10 +34,11 @@ loop-entry-preserved c =
     let m = machine_of c.loop-entry.running in
     let n = machine_of c.step.new.running in
     let on : c.in_ok-taken.taken ≡ true = first_of (search rules, grind arith) in
-    let step : Steps m entry n true = subst (λ (b : Bool). Steps m entry n b) on c.in_ok-taken.ensures in
+    let step : Steps m entry n true = subst (λ (b : Bool). Steps m entry n b) on c.in_ok-taken.ensures.is in
     record {
       at = ap (λ k. k + 1) inv.at;
       may = may-next start entries i entry c.loop-entry-test.true c.entry-item.is m inv.is inv.may step.0;
+      counted = c.in_ok-taken.ensures.counted;
       is = is-next start entries i entry c.loop-entry-test.true c.entry-item.is m inv.is n step.1;
     }
 

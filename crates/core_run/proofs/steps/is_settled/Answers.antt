@@ -1,4 +1,4 @@
-use Rattle.std.proofs.Common.{◌≡◌, true, false, rules, arith, sym, ◌∙◌}
+use Rattle.std.proofs.Common.{◌≡◌, true, false, rules, arith}
 use Rattle.std.proofs.lemmas.Bool.{false≢true}
 use Rattle.core_run.specs.Running.{machine_of}
 use Rattle.core_run.proofs.StepLaws.{clash, decides-form, settled-decides}
