@@ -99,6 +99,7 @@ pub record IsConsistent (files : Files) (held : Held) (list : ChangeList) : Type
   pub valid : IsChangeList list
   pub openable : IsOpenable files held list.size
   pub bytes : (e : Entity) → All (HasFile list files) (entity_names e (kept_cover files e))
-  pub rows : map said_by (kept_rows files held list.size) ≡ map said_of (arranged (changes_from (end_of_files files * list.size) list.changes))
+  pub rows : map said_by (kept_rows files held list.size)
+      ≡ map said_of (arranged (changes_from (end_of_files files * list.size) list.changes))
   pub next : list.next ≡ max (next_of 0 list.changes) (end_of_files files * list.size)
   pub content : content_of list.changes ≤ 2 ^ 28

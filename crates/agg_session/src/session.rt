@@ -143,7 +143,8 @@ impl<D: Disk, K: Keeper> Session<D, K> {
         ensures store { self.new.store ≡ record self.old.store { sets = self.new.store.sets } }
         // The groups that it pinned are counted once less, and no others.
         ensures unpins { (t : Transaction) → Some t ≡ open_of number self.old.link.transactions → (n : FileName) →
-            count_of self.new.store.sets.held n + named_once (set_of t.view).ids n ≡ count_of self.old.store.sets.held n }
+            count_of self.new.store.sets.held n + named_once (set_of t.view).ids n
+            ≡ count_of self.old.store.sets.held n }
         ensures goes { Goes D.Disk self.old.store self.new.store }
     {
         let Some(transaction) = self.link.close_transaction(number) else {

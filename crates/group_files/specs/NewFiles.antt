@@ -97,8 +97,8 @@ pub record ArePublished (new : List NewFile) (old now : Files) : Type 0 where
   pub cleared : All (HasNoTemporary now) new
   pub others : (text : List ℕ) → IsOther new text → IsSame old now text
 
--- Those that are done are there, each with its bytes and with no temporary name. The others are as they were, and of their
--- temporary names all but that of the first. Every other name is as it was.
+-- Those that are done are there, each with its bytes and with no temporary name. The others are as they were, and of
+-- their temporary names all but that of the first. Every other name is as it was.
 pub record ArePartlyPublished (new : List NewFile) (old now : Files) : Type 0 where
   pub done : List NewFile
   pub rest : List NewFile

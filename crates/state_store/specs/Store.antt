@@ -42,7 +42,8 @@ IsStepBelow end g = (g.range.to ≡ g.range.from + 1) × (g.range.to ≤ end)
 abbrev pub AreBelow : ℕ → Versions → Type 0
 AreBelow next hot = ForSome hot.told (λ h. All (λ c. c.tx < next) (changes_seen hot.epoch h.rows))
 
--- the numbers of the store fit, only complete steps have groups, and the rows that its keeper tells are below the next number
+-- the numbers of the store fit, only complete steps have groups, and the rows that its keeper tells are below the next
+-- number
 pub record IsStore {D K : Type 0} (most : ℕ) (store : Store D K) : Type 0 where
   pub size_from_one : 1 ≤ store.size
   pub size_within : store.size ≤ 2 ^ 32
@@ -101,8 +102,8 @@ pub record Keeps {D K : Type 0} (disk : DiskGhosts D) (store : Store D K) (list 
 abbrev pub step_names : ℕ → List FileName
 step_names step = names_over (step_range step ∷ [])
 
--- a disk has these files of the list, and of the grammar else only whole files of the list that have one of the next names,
--- and temporary names of such files
+-- a disk has these files of the list, and of the grammar else only whole files of the list that have one of the next
+-- names, and temporary names of such files
 pub record HasPart (list : ChangeList) (names next : List FileName) (now : Files) : Type 0 where
   pub held : All (HasFile list now) names
   pub named : (name : FileName) → IsTrue (is_name name) → IfSome (get now (spelled name)) (IsFileOf list name)
@@ -120,8 +121,8 @@ HasOneTemporary now = (a b : FileName) → IsTrue (is_name a) → IsTrue (is_nam
 abbrev pub untold : {D : Type 0} → DiskGhosts D → DiskGhosts D
 untold disk = record disk { files = λ _. None }
 
--- The store holds the list, but that some files of the first step without groups may be on the disk, whole, and temporary
--- names of them: what faults leave, however often a settle has stopped.
+-- The store holds the list, but that some files of the first step without groups may be on the disk, whole, and
+-- temporary names of them: what faults leave, however often a settle has stopped.
 pub record Resumes {D K : Type 0} (disk : DiskGhosts D) (store : Store D K) (list : ChangeList) : Type 0 where
   pub holds : Holds (untold disk) store list
   pub part : ForSome (disk.files store.disk)
@@ -131,8 +132,8 @@ pub record Resumes {D K : Type 0} (disk : DiskGhosts D) (store : Store D K) (lis
 abbrev pub set_of : View → SetOf GroupFiles
 set_of view = arc_value view.set
 
--- The view's own groups are the list's up to their end, and of the rows that its epoch sees, those from there on are the
--- list's changes. Nothing is asked of the rows that its files cover.
+-- The view's own groups are the list's up to their end, and of the rows that its epoch sees, those from there on are
+-- the list's changes. Nothing is asked of the rows that its files cover.
 pub record Sees (hot : Versions) (size : ℕ) (view : View) (list : ChangeList) : Type 0 where
   pub epoch : view.epoch ≤ hot.epoch
   pub stands : Stand list (set_of view).groups (told_from view.epoch ((set_of view).end * list.size) hot) size
@@ -151,8 +152,8 @@ pins_of (v ∷ vs) n = named_once (set_of v).ids n + pins_of vs n
 abbrev pub ArePinned : List HeldGroup → List View → Type 0
 ArePinned held views = (n : FileName) → pins_of views n ≤ count_of held n
 
--- What each call keeps, whatever it answers: names outside the grammar, the step size, and all that any view sees of any list;
--- groups don't go, and counts of faults don't fall.
+-- What each call keeps, whatever it answers: names outside the grammar, the step size, and all that any view sees of
+-- any list; groups don't go, and counts of faults don't fall.
 pub record Goes {D K : Type 0} (disk : DiskGhosts D) (old new : Store D K) : Type 0 where
   pub outside : SameOutside (disk.files old.disk) (disk.files new.disk)
   pub size : new.size ≡ old.size
@@ -178,7 +179,8 @@ abbrev pub no_changes : ℕ → ChangeList
 no_changes size = record { changes = []; next = 0; size = size }
 
 -- a device is blamed only where its count of faults rose
-pub record HasCauses {T D K : Type 0} (disk : DiskGhosts D) (old new : Store D K) (result : Result T Stop) : Type 0 where
+pub record HasCauses {T D K : Type 0} (disk : DiskGhosts D) (old new : Store D K) (result : Result T Stop)
+    : Type 0 where
   pub of_disk : IsErrOf result stops.Disk → Rose (disk.faults old.disk) (disk.faults new.disk)
   pub of_keeper : IsErrOf result stops.Keeper → Rose old.hot.faults new.hot.faults
 

@@ -83,7 +83,8 @@ pub(crate) fn numbers_in<K: Keeper>(
     requires view { (set_of view.now).end * size ≤ view.now.next }
     requires limit { limit ≤ 1000 }
     ensures page { (list : ChangeList) → Sees hot.old size view.now list →
-        IfOk result (λ page. (page.items, page.more) ≡ limited (λ t. t) limit (index list.changes entity key.now a b back)) }
+        IfOk result (λ page. (page.items, page.more)
+        ≡ limited (λ t. t) limit (index list.changes entity key.now a b back)) }
     ensures later { IsLater hot.old hot.new }
     ensures cause { HasCause ReadError.Keeper hot.old.faults hot.new.faults result }
 {

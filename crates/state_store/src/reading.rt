@@ -73,7 +73,8 @@ impl<D: Disk, K: Keeper> Store<D, K> {
         requires view { HasView self.old view.now }
         requires limit { limit ≤ 1000 }
         ensures page { (list : ChangeList) → Sees self.old.hot self.old.size view.now list →
-            IfOk result (λ page. (page.items, page.more) ≡ limited (λ t. t) limit (index list.changes entity key.now a b back)) }
+            IfOk result (λ page. (page.items, page.more)
+            ≡ limited (λ t. t) limit (index list.changes entity key.now a b back)) }
         ensures same { self.new ≡ record self.old { hot = record self.old.hot { faults = self.new.hot.faults } } }
         ensures goes { Goes D.Disk self.old self.new }
         ensures causes { HasCauses D.Disk self.old self.new result }

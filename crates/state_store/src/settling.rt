@@ -16,9 +16,9 @@ use std::sync::Wait;
 use std::thread::Threads;
 
 impl<D: Disk, K: Keeper> Store<D, K> {
-    /// Writes the files of the first step that has no groups, and makes its groups visible. After an error the groups are
-    /// as they were, and no file that stood before is touched but those of the step, which may be written again. A step
-    /// that was stopped is written whole by the next call.
+    /// Writes the files of the first step that has no groups, and makes its groups visible. After an error the groups
+    /// are as they were, and no file that stood before is touched but those of the step, which may be written again. A
+    /// step that was stopped is written whole by the next call.
     pub fn settle_step<H: Threads + Wait + Clock + Sync>(
         &mut self,
         rt: &H,
@@ -34,8 +34,10 @@ impl<D: Disk, K: Keeper> Store<D, K> {
         ensures one_temporary { (list : ChangeList) → Holds D.Disk self.old list →
             OnErr result (ForSome (D.files self.new.disk) HasOneTemporary) }
         // Where faults left a step in part, it is written whole, or is in part as before.
-        ensures resumed { (list : ChangeList) → Resumes D.Disk self.old list → OnOk result (Holds D.Disk self.new list) }
-        ensures stopped { (list : ChangeList) → Resumes D.Disk self.old list → OnErr result (Resumes D.Disk self.new list) }
+        ensures resumed { (list : ChangeList) → Resumes D.Disk self.old list →
+            OnOk result (Holds D.Disk self.new list) }
+        ensures stopped { (list : ChangeList) → Resumes D.Disk self.old list →
+            OnErr result (Resumes D.Disk self.new list) }
         ensures one { OnOk result (steps_held self.new ≡ steps_held self.old + 1) }
         ensures same { IsSettling self.old self.new }
         ensures pins { (n : FileName) → count_of self.new.sets.held n ≡ count_of self.old.sets.held n }
@@ -53,9 +55,9 @@ impl<D: Disk, K: Keeper> Store<D, K> {
         Ok(())
     }
 
-    /// Writes the files of each complete step that has no groups, in order, and makes its groups visible. After an error
-    /// those of the steps before the one at work are written, and no file that stood before is touched but those of the
-    /// step at work, which may be written again. A step that was stopped is written whole by the next call.
+    /// Writes the files of each complete step that has no groups, in order, and makes its groups visible. After an
+    /// error those of the steps before the one at work are written, and no file that stood before is touched but those
+    /// of the step at work, which may be written again. A step that was stopped is written whole by the next call.
     pub fn settle<H: Threads + Wait + Clock + Sync>(
         &mut self,
         rt: &H,
@@ -70,8 +72,10 @@ impl<D: Disk, K: Keeper> Store<D, K> {
         ensures one_temporary { (list : ChangeList) → Holds D.Disk self.old list →
             OnErr result (ForSome (D.files self.new.disk) HasOneTemporary) }
         // Where faults left a step in part, it is written whole, or is in part as before.
-        ensures resumed { (list : ChangeList) → Resumes D.Disk self.old list → OnOk result (Holds D.Disk self.new list) }
-        ensures stopped { (list : ChangeList) → Resumes D.Disk self.old list → OnErr result (Resumes D.Disk self.new list) }
+        ensures resumed { (list : ChangeList) → Resumes D.Disk self.old list →
+            OnOk result (Holds D.Disk self.new list) }
+        ensures stopped { (list : ChangeList) → Resumes D.Disk self.old list →
+            OnErr result (Resumes D.Disk self.new list) }
         // All complete steps have their files then.
         ensures all { OnOk result (steps_held self.new ≡ self.old.next / self.old.size) }
         ensures same { IsSettling self.old self.new }

@@ -181,8 +181,9 @@ pub(crate) fn publish_step<D: Disk>(
         OnErr result (ForSome (D.files disk.new) HasOneTemporary) }
     ensures resumed { (list : ChangeList) (below : List GroupFiles) →
         IsNextStep list step below (map (λ g. arc_value g) groups.now) →
-        ForSome (D.files disk.old) (HasPart list (names_for below) (step_names step)) → OnOk result
-        (ForSome (D.files disk.new) (HasExactly list (names_for below ++ names_for (map (λ g. arc_value g) groups.now)))) }
+        ForSome (D.files disk.old) (HasPart list (names_for below) (step_names step)) →
+        OnOk result (ForSome (D.files disk.new)
+        (HasExactly list (names_for below ++ names_for (map (λ g. arc_value g) groups.now)))) }
     ensures stopped { (list : ChangeList) (below : List GroupFiles) →
         IsNextStep list step below (map (λ g. arc_value g) groups.now) →
         ForSome (D.files disk.old) (HasPart list (names_for below) (step_names step)) →

@@ -44,8 +44,8 @@ pub struct NotMade<D, K> {
 }
 
 impl<D: Disk, K: Keeper> Store<D, K> {
-    /// No changes and no group yet, at the first epoch, over an empty disk and an empty keeper; for want of memory these
-    /// are given back.
+    /// No changes and no group yet, at the first epoch, over an empty disk and an empty keeper; for want of memory
+    /// these are given back.
     pub fn new(alloc: Global, disk: D, keeper: K, size: u64) -> Result<Store<D, K>, NotMade<D, K>>
         requires rows { ForSome (K.held keeper) (λ h. h.rows ≡ []) }
         ensures err { IfErr result (λ n. n ≡ record { disk = disk; keeper = keeper }) }
