@@ -84,19 +84,17 @@ fn step_changes(alloc: Global, sizes: Sizes, step: u64) -> Result<Batch, Memory>
     Ok(changes)
 }
 
-// Adds the groups of a step to those below it.
-fn add_groups<H: Threads + Wait + Clock + Sync>(
+/// Adds the groups of a step to those below it.
+pub fn add_groups<H: Threads + Wait + Clock + Sync>(
     rt: &H,
     alloc: Global,
     files: &mut Inputs,
-    sizes: Sizes,
-    step: u64,
+    rows: &StepRows,
+    size: u64,
 ) -> Result<(), Memory>
-    requires { step < 4096 }
+    requires { rows.now.step < 4096 }
 {
-    let changes = step_changes(alloc, sizes, step)?;
-    let rows = StepRows { step, changes };
-    let groups = collate(rt, alloc, &rows, files.as_slice(), sizes.keys)?;
+    let groups = collate(rt, alloc, rows, files.as_slice(), size)?;
     for group in groups.into_vec() {
         files.push(Arc::new(alloc, group)?)?;
     }
@@ -111,7 +109,14 @@ pub fn files_of<H: Threads + Wait + Clock + Sync>(
 ) -> Result<Inputs, Memory> {
     let mut files = Inputs::new(alloc);
     for step in 0..sizes.groups.min(4095) {
-        add_groups(rt, alloc, &mut files, sizes, step)?;
+        let changes = step_changes(alloc, sizes, step)?;
+        add_groups(
+            rt,
+            alloc,
+            &mut files,
+            &StepRows { step, changes },
+            sizes.keys,
+        )?;
     }
     Ok(files)
 }
@@ -122,6 +127,16 @@ fn batch_of(alloc: Global, change: Change) -> Result<Batch, Memory>
     let mut batch = Batch::new(alloc);
     batch.push(change)?;
     Ok(batch)
+}
+
+/// Adds the row of a change, at an epoch of its own.
+pub fn add_row(alloc: Global, change: Change, hot: &mut Hot<TreeKeeper>) -> Result<(), RowsError>
+    requires { hot.old.told ≡ None }
+    ensures { hot.new.told ≡ None }
+{
+    let batch = batch_of(alloc, change)?;
+    hot.ingest(alloc, &batch)?;
+    Ok(())
 }
 
 // Adds the changes of the key in the last step.
@@ -137,8 +152,7 @@ fn add_rows(
     let first = sizes.keys.wrapping_mul(sizes.groups);
     for time in 0..changes_in(sizes, sizes.groups, key) {
         let tx = first.wrapping_add(place_of(sizes, key, time));
-        let batch = batch_of(alloc, change_of(alloc, key, tx)?)?;
-        hot.ingest(alloc, &batch)?;
+        add_row(alloc, change_of(alloc, key, tx)?, hot)?;
     }
     Ok(())
 }

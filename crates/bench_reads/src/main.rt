@@ -51,3 +51,6 @@ fn main(rt: HostRuntime) -> ExitCode {
         Err(Memory) => ExitCode::from(2u8),
     }
 }
+
+#[cfg(test)]
+mod tests;

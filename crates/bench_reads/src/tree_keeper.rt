@@ -32,7 +32,8 @@ pub struct TreeKeeper {
     pub calls: u64,
     /// The call that fails, counted from 1.
     pub fails: u64,
-    faults: u64,
+    /// How many calls failed.
+    pub faults: u64,
 }
 
 impl TreeKeeper {
