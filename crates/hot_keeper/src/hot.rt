@@ -171,7 +171,9 @@ impl<K: Keeper> Hot<K> {
 
     /// The first `limit` keys of the entity not below `from` of which the epoch sees a change from
     /// `tx_from` on and below `tx_to`: at most two looks for each key, one for each version in the way that
-    /// the epoch doesn't see, and one more; none where there is no such number.
+    /// the epoch doesn't see, and one more; none where there is no such number. Where at most 256 rows are
+    /// noted with such numbers and no row was killed after the epoch, their ids are gathered first, and no
+    /// look goes to a key between them.
     pub fn keys(
         &mut self,
         alloc: Global,
@@ -253,6 +255,7 @@ impl<K: Keeper> Hot<K> {
         ensures silent { IfNone self.old.told (self.new.told ≡ None) }
         ensures err { OnErr result (self.new ≡ record self.old { faults = self.new.faults }) }
         // The epoch is worn exactly where it stands at its limit and would rise.
+        ensures limit { NamesLimit result }
         ensures worn { IsWorn result → (self.old.epoch ≡ 2 ^ 62) × IfSome self.old.told
             (λ h. does_prune tx floor limit h ≡ true) }
         ensures rises { self.old.epoch ≡ 2 ^ 62 → IfSome self.old.told

@@ -2,7 +2,7 @@
 ghost use Rattle.std.specs.Prelude.{◌≡◌, ◌↔◌, ℕ, ◌+◌, ◌^◌, ◌≤◌, ◌||◌, ◌==◌, if◌then◌else◌, not, nat_lt, true, false, length, take, Some, None, IfSome, IfNone, IfOk, OnOk, OnErr, IsSomeAnd};
 ghost use Rattle.std.specs.Option.{ForSome};
 ghost use Rattle.agg_outside.specs.Counts.{HasCause};
-ghost use Rattle.row_epochs.specs.Errors.{IsWorn, IsUnworn};
+ghost use Rattle.row_epochs.specs.Errors.{IsWorn, IsUnworn, NamesLimit};
 ghost use Rattle.row_epochs.specs.Seen.{SameUpTo};
 ghost use Rattle.row_epochs.specs.Versions.{AreVersions};
 ghost use Rattle.hot_keeper.specs.Pruning.{low_rows, does_prune, pruned, epoch_pruned};
@@ -70,6 +70,7 @@ pub fn kill_first<K: Keeper>(
     ensures sound { IfSome rows.new.told (AreVersions rows.new.epoch) }
     ensures silent { IfNone rows.old.told (rows.new.told ≡ None) }
     ensures err { OnErr result (rows.new ≡ record rows.old { faults = rows.new.faults }) }
+    ensures limit { NamesLimit result }
     ensures worn { IsWorn result → (rows.old.epoch ≡ 2 ^ 62) × IfSome rows.old.told
         (λ h. does_prune tx floor limit h ≡ true) }
     ensures rises { rows.old.epoch ≡ 2 ^ 62 → IfSome rows.old.told

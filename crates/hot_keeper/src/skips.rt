@@ -1,12 +1,11 @@
 //! Where the looks for keys go on, by notes of rows, so that a window of few changes is read without a look
 //! at the other keys.
-ghost use Rattle.std.specs.Prelude.{◌≡◌, ◌==◌, ◌≤◌, ◌<◌, ℕ, true, false, List, length, get_or, Some, IfSome, IfOk, if◌then◌else◌};
-ghost use Rattle.std.specs.List.{Contains};
+ghost use Rattle.std.specs.Prelude.{◌≡◌, ◌==◌, ◌≤◌, ◌<◌, ℕ, true, false, List, length, get_or, IfSome, IfOk, if◌then◌else◌};
 ghost use Rattle.std.specs.List.Sorted.{IsSorted};
 ghost use Rattle.agg_outside.specs.Rows.{id_cmp, is_before};
 ghost use Rattle.agg_outside.specs.declared.rows.RowId.{RowId};
 ghost use Rattle.agg_outside.specs.declared.rows.Row.{Row};
-ghost use Rattle.hot_keeper.specs.Notes.{HasNote, AreNoted};
+ghost use Rattle.hot_keeper.specs.Notes.{AreNoted};
 ghost use Rattle.hot_keeper.specs.Skips.{AreKilledBy, AreAmong, IsFirstAmong, IsNextLook};
 
 use crate::notes::{Notes, are_few, ids_within};

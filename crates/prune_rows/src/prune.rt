@@ -1,7 +1,7 @@
 ghost use Rattle.std.specs.Prelude.{◌≡◌, ◌↔◌, ◌⊎◌, ℕ, ◌*◌, ◌+◌, ◌^◌, ◌≤◌, true, false, length, take, Some, None, IfSome, IfNone, IfOk, OnOk, OnErr, IsSomeAnd};
 ghost use Rattle.std.specs.Option.{ForSome};
 ghost use Rattle.agg_outside.specs.Counts.{HasCause};
-ghost use Rattle.row_epochs.specs.Errors.{IsWorn};
+ghost use Rattle.row_epochs.specs.Errors.{IsWorn, NamesLimit};
 ghost use Rattle.hot_keeper.specs.Pruning.{low_rows, does_prune, pruned, epoch_pruned};
 ghost use Rattle.prune_rows.specs.Prunes.{after_prune, SameBetween};
 
@@ -42,6 +42,7 @@ pub fn prune_some<K: Keeper>(
     ensures err { IfSome hot.old.told (λ h. OnErr result
         ((hot.new.told ≡ Some h) ⊎ (hot.new.told ≡ Some (pruned (hot.old.epoch + 1) (end * size) end limit h)))) }
     ensures silent { IfNone hot.old.told (hot.new.told ≡ None) }
+    ensures limit { NamesLimit result }
     ensures worn { IsWorn result → (hot.old.epoch ≡ 2 ^ 62) × IfSome hot.old.told
         (λ h. does_prune (end * size) end limit h ≡ true) }
     ensures rises { hot.old.epoch ≡ 2 ^ 62 → IfSome hot.old.told
