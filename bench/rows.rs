@@ -1,5 +1,5 @@
 //! Calls over versioned rows as a plain ordered map and filters answer them, for a comparison in one run:
-//! `rows PART COUNT MORE`.
+//! `rows PART COUNT MORE STORES`.
 
 use std::collections::BTreeMap;
 use std::ops::Bound::{Excluded, Included, Unbounded};
@@ -41,64 +41,66 @@ fn steps(map: &Map, epoch: u64, count: u64, steps: u64) -> u64 {
     sum
 }
 
+fn sum_of_look(map: &Map, part: &str, epoch: u64, count: u64, random: u64) -> u64 {
+    let key = key_of((random >> 33) % count);
+    let low = (0, key.clone(), 0, 0);
+    match part {
+        "last" => {
+            let high = (0, key, u64::MAX, 0);
+            let last = map.range(low..high).rev().find(|(id, row)| is_seen(epoch, id.3, row.0));
+            last.map_or(0, |(_, row)| row.2.clone()[7] as u64)
+        }
+        "times" => {
+            let high = (0, key, u64::MAX, 0);
+            let found = map.range(low..high).filter(|(id, row)| is_seen(epoch, id.3, row.0));
+            found.take(PAGE).map(|(id, _)| id.2).collect::<Vec<_>>().iter().sum::<u64>()
+        }
+        "keys" => {
+            let found = map.range((Included(low), Unbounded)).filter(|(id, row)| is_seen(epoch, id.3, row.0));
+            let mut keys: Vec<Vec<u8>> = found.take(PAGE).map(|(id, _)| id.1.clone()).collect();
+            keys.dedup();
+            keys.iter().map(|key| key[0] as u64).sum::<u64>()
+        }
+        "window" => {
+            let last = count.saturating_sub(LAST)..count;
+            let mut keys: Vec<Vec<u8>> = last.map(key_of).filter(|other| *other >= key).collect();
+            keys.sort();
+            keys.iter().take(PAGE).map(|key| key[0] as u64).sum::<u64>()
+        }
+        "views" => {
+            let high = Excluded((1, vec![], 0, 0));
+            let found = map.range((Included(low), high)).filter(|(id, row)| is_seen(epoch, id.3, row.0));
+            let rows: Vec<_> = found.take(PAGE).map(|(id, row)| (id.clone(), row.clone())).collect();
+            rows.iter().map(|(id, _)| id.2).sum::<u64>()
+        }
+        "low" => map.iter().filter(|(id, row)| row.0 == 0 && id.2 < count).count() as u64,
+        _ => panic!("no such part"),
+    }
+}
+
+fn sum_of_prunes(map: &mut Map, count: u64, rounds: u64) -> u64 {
+    let low: Vec<_> = map.keys().filter(|id| id.2 < count / 2).take(PRUNED * rounds as usize).cloned().collect();
+    low.iter().filter(|id| map.remove(*id).is_some()).count() as u64
+}
+
 fn main() {
     let words: Vec<String> = std::env::args().skip(1).collect();
-    let (count, more): (u64, u64) = (words[1].parse().expect("a count"), words[2].parse().expect("a number"));
-    let mut map = filled(count);
+    let [count, more, stores] = [1, 2, 3].map(|place| words[place].parse::<u64>().expect("a number"));
+    let mut maps: Vec<Map> = (0..stores).map(|_| filled(count)).collect();
     let epoch = count;
-    let (mut random, mut sum) = (1u64, 0u64);
-    match words[0].as_str() {
-        "filled" => sum = epoch,
-        "steps" => sum = steps(&map, epoch, count, more),
-        "low" => {
-            for _ in 0..more {
-                sum += map.iter().filter(|(id, row)| row.0 == 0 && id.2 < count).count() as u64;
-            }
-        }
-        "prunes" => {
-            let low: Vec<_> = map.keys().filter(|id| id.2 < count / 2).take(PRUNED * more as usize).cloned().collect();
-            for id in low {
-                sum += map.remove(&id).is_some() as u64;
-            }
-        }
+    let sum = match words[0].as_str() {
+        "filled" => epoch * stores,
+        "steps" => maps.iter().map(|map| steps(map, epoch, count, more)).sum::<u64>(),
+        "prunes" => maps.iter_mut().map(|map| sum_of_prunes(map, count, more)).sum::<u64>(),
         part => {
+            let (mut random, mut sum) = (1u64, 0u64);
             for _ in 0..more {
-                random = next_random(random);
-                let key = key_of((random >> 33) % count);
-                let low = (0, key.clone(), 0, 0);
-                match part {
-                    "last" => {
-                        let high = (0, key, u64::MAX, 0);
-                        let last = map.range(low..high).rev().find(|(id, row)| is_seen(epoch, id.3, row.0));
-                        sum += last.map_or(0, |(_, row)| row.2.clone()[7] as u64);
-                    }
-                    "times" => {
-                        let high = (0, key, u64::MAX, 0);
-                        let found = map.range(low..high).filter(|(id, row)| is_seen(epoch, id.3, row.0));
-                        sum += found.take(PAGE).map(|(id, _)| id.2).collect::<Vec<_>>().iter().sum::<u64>();
-                    }
-                    "keys" => {
-                        let found = map.range((Included(low), Unbounded)).filter(|(id, row)| is_seen(epoch, id.3, row.0));
-                        let mut keys: Vec<Vec<u8>> = found.take(PAGE).map(|(id, _)| id.1.clone()).collect();
-                        keys.dedup();
-                        sum += keys.iter().map(|key| key[0] as u64).sum::<u64>();
-                    }
-                    "window" => {
-                        let last = count.saturating_sub(LAST)..count;
-                        let mut keys: Vec<Vec<u8>> = last.map(key_of).filter(|other| *other >= key).collect();
-                        keys.sort();
-                        sum += keys.iter().take(PAGE).map(|key| key[0] as u64).sum::<u64>();
-                    }
-                    "views" => {
-                        let high = Excluded((1, vec![], 0, 0));
-                        let found = map.range((Included(low), high)).filter(|(id, row)| is_seen(epoch, id.3, row.0));
-                        let rows: Vec<_> = found.take(PAGE).map(|(id, row)| (id.clone(), row.clone())).collect();
-                        sum += rows.iter().map(|(id, _)| id.2).sum::<u64>();
-                    }
-                    _ => panic!("no such part"),
-                }
+                let draw = next_random(random);
+                random = next_random(draw);
+                sum += sum_of_look(&maps[((draw >> 33) % stores) as usize], part, epoch, count, random);
             }
+            sum
         }
-    }
+    };
     println!("{sum}");
 }

@@ -1,8 +1,9 @@
-//! Versioned rows that `bench/rows` measures from outside: `bench_rows PART COUNT MORE` puts so many changes
-//! into rows in memory, makes the calls of one part, and prints a checksum.
+//! Versioned rows that `bench/rows` measures from outside: `bench_rows PART COUNT MORE STORES` puts so
+//! many changes into each of so many stores in memory, makes the calls of one part, and prints a checksum.
 #![tactic(auto)]
 
 mod reads;
+mod store;
 mod tree_keeper;
 
 use agg_outside::Memory;
@@ -20,10 +21,16 @@ fn sum_of_part<R: AllocGlobal + Env>(rt: &R) -> Result<Option<u64>, Memory> {
     let (Some(part), Some(count), Some(more)) = (args.next(), args.next(), args.next()) else {
         return Ok(None);
     };
+    let Some(stores) = args.next() else {
+        return Ok(None);
+    };
     let (Ok(count), Ok(more)) = (count.parse::<u64>(), more.parse::<u64>()) else {
         return Ok(None);
     };
-    sum_of_reads(rt.alloc(), part.as_str(), count, more)
+    let Ok(stores) = stores.parse::<u64>() else {
+        return Ok(None);
+    };
+    sum_of_reads(rt.alloc(), part.as_str(), count, more, stores)
 }
 
 fn main(rt: HostRuntime) -> ExitCode {
