@@ -4,3 +4,4 @@ pub mod Writing
 pub mod Views
 pub mod Zeros
 pub mod Codes
+pub mod Room

@@ -1,3 +1,4 @@
 pub mod Bits
 pub mod Rice
 pub mod Counts
+pub mod Reserved

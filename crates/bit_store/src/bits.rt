@@ -1,4 +1,5 @@
 ghost use Rattle.std.specs.Prelude.{◌≡◌, ◌<◌, ◌≤◌, ◌+◌, ◌*◌, ◌%◌, ◌/◌, ◌^◌, ◌++◌, [], false, length, take, set, slice_index, replicate, OnOk, OnErr};
+ghost use Rattle.std.specs.Vec.{vec_capacity};
 ghost use Rattle.bit_store.specs.Bits.{low_bits, text_of, IsHeld, bits_of, bytes_for};
 ghost use Rattle.bit_store.specs.Counts.{number_in};
 
@@ -45,14 +46,15 @@ fn fill(bytes: &mut Vec<u8>, at: usize, part: u64, used: u32)
     requires used { used < 8 }
     requires low { slice_index bytes.old.items at < 2 ^ used }
     requires part { 2 ^ used * part + 2 ^ used ≤ 256 }
-    ensures { bytes.new.items ≡ set bytes.old.items at (slice_index bytes.old.items at + 2 ^ used * part) }
+    ensures items { bytes.new.items ≡ set bytes.old.items at (slice_index bytes.old.items at + 2 ^ used * part) }
+    ensures capacity { vec_capacity bytes.new ≡ vec_capacity bytes.old }
 {
     let more = (part << used) as u8;
     bytes[at] += more;
 }
 
-// Puts a value of `width` bits behind the first `len` bits of the bytes.
-fn put(bytes: &mut Vec<u8>, len: u64, value: u64, width: u32) -> Result<(), Memory>
+/// Puts a value of `width` bits behind the first `len` bits of the bytes; where they have the room, it takes no memory.
+pub(crate) fn put(bytes: &mut Vec<u8>, len: u64, value: u64, width: u32) -> Result<(), Memory>
     requires held { IsHeld len bytes.old.items }
     requires few { len ≤ 2 ^ 62 }
     requires wide { width ≤ 64 }
@@ -60,6 +62,8 @@ fn put(bytes: &mut Vec<u8>, len: u64, value: u64, width: u32) -> Result<(), Memo
     ensures ok { OnOk result (number_in bytes.new.items ≡ number_in bytes.old.items + 2 ^ len * value) }
     ensures count { OnOk result (length bytes.new.items ≡ bytes_for (len + width)) }
     ensures err { OnErr result (bytes.new.items ≡ bytes.old.items) }
+    ensures capacity { vec_capacity bytes.old ≤ vec_capacity bytes.new }
+    ensures full { OnErr result (vec_capacity bytes.old < bytes_for (len + width)) }
 {
     let used = (len % 8) as u32;
     let room = (8 - used) % 8;

@@ -2,10 +2,12 @@
 #![tactic(auto)]
 
 mod bits;
+mod reserved;
 mod rice;
 mod view;
 
 pub use bits::Bits;
+pub use reserved::ReservedBits;
 pub use rice::{RiceReader, RiceWriter};
 pub use view::BitView;
 

@@ -5,8 +5,15 @@ use std::test::*;
 fn shared<T: Send + Sync>(_value: &T) {}
 
 // Threads may share each of them.
-fn all_shared(bits: &Bits, writer: &RiceWriter, view: &BitView<'_>, reader: &RiceReader<'_>) {
+fn all_shared(
+    bits: &Bits,
+    reserved: &ReservedBits,
+    writer: &RiceWriter,
+    view: &BitView<'_>,
+    reader: &RiceReader<'_>,
+) {
     shared(bits);
+    shared(reserved);
     shared(writer);
     shared(view);
     shared(reader);
@@ -30,6 +37,25 @@ fn bits_go_on_behind_a_text(rt: HostRuntime) -> Result<(), Fail> {
     let mut bits = Bits::of(text);
     bits.push(3, 2).ok().ok_or("memory")?;
     assert_eq!(rt; bits.finish().as_slice(), [0xa1, 3].as_slice());
+    Ok(())
+}
+
+#[test]
+fn reserved_bits_stand_as_others(rt: HostRuntime) -> Result<(), Fail> {
+    let mut bits = ReservedBits::with_room(rt.alloc(), 20)
+        .ok()
+        .ok_or("memory")?;
+    bits.push(5, 4);
+    assert!(rt; bits.len() == 4);
+    bits.push_zeros(4);
+    assert!(rt; bits.len() == 8);
+    bits.push_text(&[0xa1]);
+    assert!(rt; bits.len() == 16);
+    let mut more = ReservedBits::with_room(rt.alloc(), 4).ok().ok_or("memory")?;
+    more.push(0xb, 4);
+    assert!(rt; more.len() == 4);
+    bits.append(more);
+    assert_eq!(rt; bits.finish().as_slice(), [0x05, 0xa1, 0x0b].as_slice());
     Ok(())
 }
 

@@ -22,7 +22,7 @@ returns-then-room-gt0-clause-ok c =
     let bytes : IsBytes c.extend_from_slice.new.self.items = rw (c.as_slice.ensures.value) at c.slice_fits.ensures in
     let end : c.len-end.result ≡ length c.args.bytes.now.items = omega arith in
     let mid : c.extend_from_slice.new.self.items ≡ c.args.bytes.now.items ++ take ((c.args.width - room + 7) / 8) (to_le_bytes w64 (c.args.value / 2 ^ room)) = c.in_ok-extend_from_slice.ensures.items ∙ (rw (c.to_le_bytes.ensures, c.saturating_sub.ensures) refl) in
-    let new : c.fill.new.bytes.items ≡ set c.extend_from_slice.new.self.items (c.len-end.result - 1) (get_or c.extend_from_slice.new.self.items (c.len-end.result - 1) 0 + 2 ^ (c.args.len % 8) * (c.args.value % 2 ^ room)) = c.fill.ensures ∙ (rw (one_shl room 64 (omega arith)) refl) in
+    let new : c.fill.new.bytes.items ≡ set c.extend_from_slice.new.self.items (c.len-end.result - 1) (get_or c.extend_from_slice.new.self.items (c.len-end.result - 1) 0 + 2 ^ (c.args.len % 8) * (c.args.value % 2 ^ room)) = c.fill.ensures.items ∙ (rw (one_shl room 64 (omega arith)) refl) in
     filled c.args.len c.args.width c.args.value room c.len-end.result c.args.bytes.now.items c.extend_from_slice.new.self.items c.fill.new.bytes.items end refl c.if-room-gt0.true c.requires.part c.ranges.value.fits c.requires.wide c.requires.held mid bytes new
 
 pub returns-else-room-gt0-clause-ok : goal.returns-else-room-gt0-clause-ok
