@@ -14,3 +14,4 @@ pub mod ReadBack
 pub mod Known
 pub mod Behind
 pub mod Opened
+pub mod Written

@@ -25,15 +25,15 @@ made a k p x = record { count = a; width = k; lower = p; upper = x }
 same : (a b k m : ℕ) (p q x y : List Bool) → a ≡ b → k ≡ m → p ≡ q → x ≡ y → made a k p x ≡ made b m q y
 same a b k m p q x y e f g h = cc
 
-length-lower : (l : ℕ) (items : List ℕ) → length (lower_bits l items) ≡ length items * l
+pub length-lower : (l : ℕ) (items : List ℕ) → length (lower_bits l items) ≡ length items * l
 length-lower l items = ap length (sym (fields-lower l items)) ∙ length-fields l items
 
 -- the parts of a list
-abbrev parts_for : ℕ → List ℕ → Parts
+abbrev pub parts_for : ℕ → List ℕ → Parts
 parts_for l items = record { count = length items; width = l; lower = lower_bits l items; upper = upper_bits l items }
 
 -- are read as its items
-items_again : (l : ℕ) (items : List ℕ) → IsListable items → items_of (parts_for l items) ≡ items
+pub items_again : (l : ℕ) (items : List ℕ) → IsListable items → items_of (parts_for l items) ≡ items
 items_again l items can =
     let p = parts_for l items in
     let n = length-items_of p in

@@ -9,12 +9,14 @@ mod list;
 mod marks;
 mod opening;
 mod parts;
+mod writer;
 mod writing;
 
 pub use error::EfError;
 pub use iter::{EfBack, EfIter};
 pub use list::EfList;
 pub use marks::Marks;
+pub use writer::EfWriter;
 pub use writing::encode;
 
 #[cfg(test)]

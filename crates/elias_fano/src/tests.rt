@@ -1,4 +1,4 @@
-ghost use Rattle.std.specs.Prelude.{◌<◌, ◌^◌, length, IfOk};
+ghost use Rattle.std.specs.Prelude.{◌≡◌, ◌<◌, ◌≤◌, ◌^◌, ◌++◌, length, All, IfOk, OnOk};
 ghost use Rattle.std.specs.Bool.{OnTrue};
 ghost use Rattle.std.specs.List.Sorted.{IsNonDecreasing};
 ghost use Rattle.elias_fano.specs.Spelling.{IsSpelled};
@@ -12,7 +12,14 @@ use std::test::*;
 fn shared<T: Send + Sync>(_value: &T) {}
 
 // Threads may share each of them.
-fn all_shared(list: &EfList<'_>, marks: &Marks, iter: &EfIter<'_>, back: &EfBack<'_>) {
+fn all_shared(
+    writer: &EfWriter,
+    list: &EfList<'_>,
+    marks: &Marks,
+    iter: &EfIter<'_>,
+    back: &EfBack<'_>,
+) {
+    shared(writer);
     shared(list);
     shared(marks);
     shared(iter);
@@ -145,5 +152,41 @@ fn items_are_found(rt: HostRuntime) -> Result<(), Fail> {
     let mut back = list.iter_back(7);
     assert_eq!(rt; back.next(), Some(9));
     assert_eq!(rt; back.next(), Some(5));
+    Ok(())
+}
+
+// Appends the list of these numbers, read from its text.
+fn add_list(
+    rt: &impl Abort,
+    alloc: Global,
+    writer: &mut EfWriter,
+    items: &[u64],
+) -> Result<(), Memory>
+    requires ascends { IsNonDecreasing (writer.old.items ++ items.now) }
+    requires fits { length (writer.old.items ++ items.now) ≤ writer.old.count }
+    requires most { All (λ item. item ≤ writer.old.last) items.now }
+    ensures { OnOk result (writer.new ≡ record writer.old { items = writer.old.items ++ items.now }) }
+{
+    assert!(rt; !items.is_empty() && items.len() < 1000 && ascends(items));
+    let text = encode(alloc, items)?;
+    assert!(rt; text.as_slice().len() < 1000);
+    writer.add(&EfList::of(text.as_slice()));
+    Ok(())
+}
+
+// The text of two numbers, written one by one.
+fn written(rt: &impl Abort, alloc: Global, first: u64, second: u64) -> Result<Bytes, Memory>
+    requires { first ≤ second }
+{
+    let mut writer = EfWriter::of(alloc, 2, second)?;
+    add_list(rt, alloc, &mut writer, &[first])?;
+    add_list(rt, alloc, &mut writer, &[second])?;
+    Ok(writer.finish())
+}
+
+#[test]
+fn two_lists_are_written_as_one(rt: HostRuntime) -> Result<(), Fail> {
+    let text = written(&rt, rt.alloc(), 5, 9).ok().ok_or("memory")?;
+    assert_eq!(rt; text.as_slice(), &FIVE_AND_NINE[..]);
     Ok(())
 }
