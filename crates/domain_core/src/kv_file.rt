@@ -4,9 +4,10 @@ ghost use Rattle.std.specs.Option.{option_copied};
 ghost use Rattle.btree_index.specs.Levels.{levels};
 ghost use Rattle.agg_model.specs.declared.entity.FileKind.{FileKind};
 ghost use Rattle.agg_model.specs.Pairs.{ArePairs, word_in};
+ghost use Rattle.word_file.specs.Reading.{tagged};
 ghost use Rattle.hashed_words.specs.declared.error.FileError.TheVariants.{Bad, Memory as NoMemory};
 ghost use Rattle.domain_core.specs.KvRules.{kv_fault};
-ghost use Rattle.domain_core.specs.KvFile.{TaggedPairs, tagged_pairs, pairs_in, kv_spelling, bt_spelling, kvi_spelling, kvi_form, ArePairWords, AreFilesOf, IsFirstNotBelow};
+ghost use Rattle.domain_core.specs.KvFile.{TaggedPairs, tagged_pairs, words_of, pairs_in, kv_spelling, bt_spelling, kvi_spelling, kvi_form, ArePairWords, AreFilesOf, IsFirstNotBelow};
 
 use crate::open::{open_bt, open_kv};
 use crate::parts::{first_place, look_up, pair_in};
@@ -91,6 +92,13 @@ impl KvFile {
         ensures { result ≡ self.now.tag }
     {
         self.words.words().tag()
+    }
+
+    /// The words of the file: a key, its value, the next key and so on.
+    pub fn words(&self) -> &WordFile
+        ensures { result.now ≡ tagged self.now.tag (words_of self.now.pairs) }
+    {
+        self.words.words()
     }
 
     /// The whole file.

@@ -78,6 +78,15 @@ impl VFile {
         self.file.words().tag()
     }
 
+    /// The number of rows.
+    pub fn len(&self) -> u64
+        ensures count { result ≡ length self.now.befores }
+        // They ascend by key and number, and lengths and numbers are within their limits.
+        ensures befores { AreBefores self.now.tag self.now.befores }
+    {
+        self.file.words().count() / 2
+    }
+
     /// The words of the file: a key word, its value, the next key word and so on.
     pub fn words(&self) -> &WordFile
         ensures { result.now ≡ tagged self.now.tag (words_of self.now.befores) }
