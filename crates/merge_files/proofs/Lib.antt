@@ -1,6 +1,15 @@
 pub mod Ascents
-pub mod Joins
 pub mod Words
 pub mod Wholes
-pub mod FileRows
 pub mod Gaps
+pub mod WordOrder
+pub mod LeastWords
+pub mod Cursors
+pub mod Choices
+pub mod Passes
+pub mod GivenWords
+pub mod FileInputs
+pub mod ItemLooks
+pub mod KeptWords
+pub mod RowWords
+pub mod NumberWords

@@ -42,7 +42,7 @@ module _ (list : ChangeList) (e : Entity) where
   befores-group r domain =
       ap (λ t. unwrap_or (option_map (λ (f : TaggedBefores). f.befores) (cond t (Some (v_of list e r)) None)) []) domain
 
-  befores-groups : (rs : List Range) → IsDomain e → map befores_of (map (group_of list e) rs) ≡ v_files list.size list.changes e rs
+  pub befores-groups : (rs : List Range) → IsDomain e → map befores_of (map (group_of list e) rs) ≡ v_files list.size list.changes e rs
   befores-groups [] domain = refl
   befores-groups (r ∷ rs) domain = λ i. befores-group r domain i ∷ befores-groups rs domain i
 

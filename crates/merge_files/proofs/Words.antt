@@ -1,9 +1,9 @@
--- Pairs and lists as rows, the pairs that have a value, and groups one by one.
-use Rattle.std.proofs.Common.{◌≡◌, ℕ, suc, ◌+◌, ◌-◌, ◌<◌, ◌≤◌, Bool, true, false, cond, List, [], ◌∷◌, ◌++◌, map, drop, length, get_or, Option, Some, None, refl, arith, sym, ◌∙◌, ap, subst, add-one, drop-cons, eq-eqb}
+-- Pairs as rows, and the pairs that have a value.
+use Rattle.std.proofs.Common.{◌≡◌, ℕ, suc, ◌+◌, ◌-◌, ◌<◌, ◌≤◌, Bool, true, false, cond, List, [], ◌∷◌, ◌++◌, map, drop, length, get_or, Option, Some, None, refl, arith, sym, ◌∙◌, ap, subst, add-one, drop-cons, eqb-true}
 use Rattle.std.specs.Prelude.{All, nat_eq, ◌==◌, ◌&&◌, is_some}
 use Rattle.std.specs.Option.{option_or}
 use Rattle.std.specs.List.{filter}
-use Rattle.std.specs.Cmp.Lexicographic.{pointwise}
+use Rattle.std.specs.Cmp.Lexicographic.{pointwise, bytes_decides}
 use Rattle.std.proofs.lemmas.Bool.{ne_eqb}
 use Rattle.std.proofs.lemmas.List.{drop_all}
 use Rattle.std.proofs.lemmas.List.Elements.{All-nil, All-cons, All-head, All-tail}
@@ -11,11 +11,36 @@ use Rattle.agg_model.specs.declared.contents.Pair.{Pair}
 use Rattle.agg_model.specs.declared.contents.Before.{Before}
 use Rattle.agg_model.specs.declared.contents.Times.{Times}
 use Rattle.agg_model.specs.Pairs.{IsBelow, KeysAscend, pair_keys, word_in, held_value}
-use Rattle.content_laws.specs.Looks.{before_in, numbers_in}
+use Rattle.content_laws.specs.Looks.{before_in}
+use Rattle.history_core.specs.Befores.{IsEarlier}
+use Rattle.history_core.proofs.Orders.{not_itself}
 use Rattle.content_laws.specs.Parts.{both_numbers, kept_word}
-use Rattle.merge_files.specs.Rows.{Ascend, pair_row, times_row, one_word, has_value}
-use Rattle.merge_files.proofs.Ascents.{rows-ascend, map-itself}
-use Rattle.merge_files.proofs.Joins.{none-behind}
+use Rattle.merge_files.specs.KeptPairs.{has_value}
+use Rattle.merge_files.proofs.Ascents.{Ascend, pair_row, rows-ascend}
+
+both-true : (t u : Bool) → (t && u) ≡ true → (t ≡ true) × (u ≡ true)
+both-true true true is = (refl, refl)
+both-true true false is = cc
+both-true false u is = cc
+
+-- a row behind another of this place isn't of it
+module _ (k : List ℕ) (n : ℕ) where
+  abbrev test : Before → Bool
+  test b = pointwise nat_eq b.key k && b.tx == n
+
+  apart-by : (a b : Before) (t : Bool) → test a ≡ true → test b ≡ t → IsEarlier a b → t ≡ false
+  apart-by a b true one other before =
+      let first = both-true (pointwise nat_eq a.key k) (a.tx == n) one in
+      let second = both-true (pointwise nat_eq b.key k) (b.tx == n) other in
+      let keys : a.key ≡ b.key = (bytes_decides a.key k).0 first.0 ∙ sym ((bytes_decides b.key k).0 second.0) in
+      let numbers : a.tx ≡ b.tx = eqb-true a.tx n first.1 ∙ sym (eqb-true b.tx n second.1) in
+      absurd (not_itself a.key b.key a.tx b.tx keys numbers before)
+  apart-by a b false one other before = refl
+
+  none-behind : (a : Before) (bs : List Before) → test a ≡ true → All (IsEarlier a) bs → before_in bs k n ≡ None
+  none-behind a [] is all = refl
+  none-behind a (b ∷ bs) is all =
+      (λ i. cond (apart-by a b (test b) is refl (All-head (IsEarlier a) b bs all) i) (Some b.value) (none-behind a bs is (All-tail (IsEarlier a) b bs all) i))
 
 and_true : (t : Bool) → (t && true) ≡ t
 and_true true = refl
@@ -25,37 +50,7 @@ pub word-rows : (ps : List Pair) (k : List ℕ) → before_in (map pair_row ps) 
 word-rows [] k = refl
 word-rows (p ∷ ps) k = λ i. cond (and_true (pointwise nat_eq p.key k) i) (Some p.value) (word-rows ps k i)
 
-pub numbers-rows : (ts : List Times) (k : List ℕ) → before_in (map times_row ts) k 0 ≡ numbers_in ts k
-numbers-rows [] k = refl
-numbers-rows (t ∷ ts) k = λ i. cond (and_true (pointwise nat_eq t.key k) i) (Some t.items) (numbers-rows ts k i)
-
--- ---- what two words become
-
-pub newer-word : (o p : Option (List ℕ)) → one_word (λ word other. other) o p ≡ option_or p o
-newer-word None None = refl
-newer-word None (Some w) = refl
-newer-word (Some v) None = refl
-newer-word (Some v) (Some w) = refl
-
-pub older-word : (o p : Option (List ℕ)) → one_word (λ word other. word) o p ≡ option_or o p
-older-word None p = refl
-older-word (Some v) None = refl
-older-word (Some v) (Some w) = refl
-
-pub all-numbers : (o p : Option (List ℕ)) → one_word (λ word other. word ++ other) o p ≡ both_numbers o p
-all-numbers None p = refl
-all-numbers (Some v) None = refl
-all-numbers (Some v) (Some w) = refl
-
 -- ---- the pairs that have a value
-
-pub value-some : (w : List ℕ) → (0 < length w) → is_some (held_value (Some w)) ≡ true
-value-some [] some = absurd (omega arith)
-value-some (b ∷ bs) some = refl
-
-pub value-none : (w : List ℕ) → length w ≡ 0 → is_some (held_value (Some w)) ≡ false
-value-none [] none = refl
-value-none (b ∷ bs) none = absurd (omega arith)
 
 all-kept-by : (k : List ℕ) (p : Pair) (kept : List Pair) (t : Bool) → IsBelow k p.key → All (IsBelow k) (pair_keys kept) → All (IsBelow k) (pair_keys (cond t (p ∷ kept) kept))
 all-kept-by k p kept true head rest = All-cons (IsBelow k) p.key (pair_keys kept) head rest
@@ -99,52 +94,7 @@ kept-word (p ∷ ps) up k =
     (λ is. sym (word-rows ps k) ∙ none-behind k 0 (pair_row p) (map pair_row ps) (and_true (pointwise nat_eq p.key k) ∙ is) rows.0)
     (kept-word ps up.1 k)
 
--- ---- groups, from the last one down
+-- ---- items from a place on
 
 pub drop_at : {Z : Type 0} (items : List Z) (i : ℕ) (z : Z) → i < length items → z ≡ get_or items i z → drop i items ≡ z ∷ drop (i + 1) items
 drop_at items i z h is = rw add-one (drop-cons items i z h ∙ ap (λ d. d ∷ drop (suc i) items) (sym is))
-
-pub one-more : {Z G A : Type 0} (value : Z → G) (of : G → A) (groups : List Z) (left : ℕ) (z : Z) → 0 < left → left ≤ length groups → z ≡ get_or groups (left - 1) z
-    → map of (map value (drop (left - 1) groups)) ≡ of (value z) ∷ map of (map value (drop left groups))
-one-more value of groups left z some within is =
-    let one : left - 1 + 1 ≡ left = omega arith in
-    ap (λ zs. map of (map value zs)) (drop_at groups (left - 1) z (omega arith) is)
-    ∙ ap (λ n. of (value z) ∷ map of (map value (drop n groups))) one
-
-pub kept-all : (from : ℕ) (word : Option (List ℕ)) → 0 < from → word ≡ kept_word from word
-kept-all from word some = sym (ap (λ t. cond t (held_value word) word) (ne_eqb from 0 (λ is. omega (arith, is, some))))
-
-pub kept-zero : (from : ℕ) (word : Option (List ℕ)) → from ≤ 0 → held_value word ≡ kept_word from word
-kept-zero from word none = sym (ap (λ t. cond t (held_value word) word) (eq-eqb from 0 (omega arith)))
-
-pub none-more : {Z G A : Type 0} (value : Z → G) (of : G → A) (groups : List Z) (left : ℕ) → length groups ≤ left → map of (map value (drop left groups)) ≡ []
-none-more value of groups left over = ap (λ zs. map of (map value zs)) (drop_all left groups over)
-
--- ---- what two files tell together, once their rows are joined
-
-pub pairs-joined : (a b f l ps : List Pair) → a ≡ f → b ≡ l
-    → ((k : List ℕ) (n : ℕ) → before_in (map pair_row ps) k n ≡ one_word (λ word other. other) (before_in (map pair_row a) k n) (before_in (map pair_row b) k n))
-    → (k : List ℕ) → word_in ps k ≡ option_or (word_in l k) (word_in f k)
-pairs-joined a b f l ps is at words k =
-    sym (word-rows ps k) ∙ words k 0
-    ∙ newer-word (before_in (map pair_row a) k 0) (before_in (map pair_row b) k 0)
-    ∙ (λ i. option_or (word-rows b k i) (word-rows a k i))
-    ∙ (λ i. option_or (word_in (at i) k) (word_in (is i) k))
-
-pub lists-joined : (a b f l ts : List Times) → a ≡ f → b ≡ l
-    → ((k : List ℕ) (n : ℕ) → before_in (map times_row ts) k n ≡ one_word (λ word other. word ++ other) (before_in (map times_row a) k n) (before_in (map times_row b) k n))
-    → (k : List ℕ) → numbers_in ts k ≡ both_numbers (numbers_in f k) (numbers_in l k)
-lists-joined a b f l ts is at words k =
-    sym (numbers-rows ts k) ∙ words k 0
-    ∙ all-numbers (before_in (map times_row a) k 0) (before_in (map times_row b) k 0)
-    ∙ (λ i. both_numbers (numbers-rows a k i) (numbers-rows b k i))
-    ∙ (λ i. both_numbers (numbers_in (is i) k) (numbers_in (at i) k))
-
-pub befores-joined : (a b f l bs : List Before) → a ≡ f → b ≡ l
-    → ((k : List ℕ) (n : ℕ) → before_in (map (λ (x : Before). x) bs) k n ≡ one_word (λ word other. word) (before_in (map (λ (x : Before). x) a) k n) (before_in (map (λ (x : Before). x) b) k n))
-    → (k : List ℕ) (n : ℕ) → before_in bs k n ≡ option_or (before_in f k n) (before_in l k n)
-befores-joined a b f l bs is at words k n =
-    ap (λ xs. before_in xs k n) (sym (map-itself bs)) ∙ words k n
-    ∙ older-word (before_in (map (λ (x : Before). x) a) k n) (before_in (map (λ (x : Before). x) b) k n)
-    ∙ (λ i. option_or (before_in (map-itself a i) k n) (before_in (map-itself b i) k n))
-    ∙ (λ i. option_or (before_in (is i) k n) (before_in (at i) k n))

@@ -1,2 +1,9 @@
 pub mod Adjacent
-pub mod Rows
+pub mod Walks
+pub mod Cursors
+pub mod Seen
+pub mod WalkLends
+pub mod Shown
+pub mod KeptPairs
+pub mod MergedRows
+pub mod MergedLists

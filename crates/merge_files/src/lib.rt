@@ -2,15 +2,21 @@
 #![tactic(auto)]
 
 mod adjacent;
-mod befores;
+mod cursor;
 mod error;
-mod join;
-mod lists;
-mod pairs;
-mod row;
+mod history;
+mod input;
+mod item;
+mod least;
+mod numbers;
+mod order;
+mod values;
+mod walk;
 mod whole;
 
 pub use error::MergeError;
+pub use item::MergeItem;
+pub use walk::MergeWalk;
 pub use whole::merge;
 
 #[cfg(test)]

@@ -1,9 +1,12 @@
 ghost use Rattle.std.specs.Prelude.{◌<◌, ◌≤◌};
+ghost use Rattle.merge_files.specs.Walks.{IsWalked};
 
 use super::*;
+use crate::input::have_file;
 use agg_model::{Act, Batch, Change, Entity, FileKind, Range, StepRows};
 use agg_outside::{Bytes, Memory};
 use collate_step::{EntityFiles, Inputs, collate};
+use elias_fano::EfList;
 use merge_ranges::is_aligned_range;
 use std::alloc::Global;
 use std::rt::Clock;
@@ -157,5 +160,91 @@ fn deletions_and_steps_without_changes_are_as_in_one_collation(
     let later = groups.as_slice().get(4..8).ok_or("no groups")?;
     let group = merged(alloc, later, 4, 8)?;
     assert!(rt; same_files(&group, halves.get(1).ok_or("no group")?));
+    Ok(())
+}
+
+/// A walk over the values of the groups; their files are there.
+fn walk_over(
+    alloc: Global,
+    groups: &[Arc<EntityFiles>],
+    kind: FileKind,
+) -> Result<MergeWalk<'_>, Fail>
+    requires { IsWalked kind }
+{
+    if !have_file(groups, kind) {
+        return Err(Fail::new("a file is missing"));
+    }
+    Ok(MergeWalk::of(alloc, groups, kind)?)
+}
+
+// Whether the next item has this key, this newest value and so many lists.
+fn gives(walk: &mut MergeWalk<'_>, key: u8, value: u8, lists: usize) -> bool {
+    let Some(item) = walk.next() else {
+        return false;
+    };
+    item.key() == [key].as_slice() && item.newest() == [value].as_slice() && item.lists() == lists
+}
+
+// Whether the next item has two lists, of these first numbers.
+fn gives_lists(walk: &mut MergeWalk<'_>, one: u64, other: u64) -> bool {
+    let Some(item) = walk.next() else {
+        return false;
+    };
+    match item.kind {
+        FileKind::Ef => {
+            item.lists() == 2
+                && starts_with(&item.list(0), one)
+                && starts_with(&item.list(1), other)
+        }
+        _ => false,
+    }
+}
+
+fn starts_with(list: &EfList<'_>, number: u64) -> bool {
+    list.len() > 0 && list.get(0) == number
+}
+
+#[test]
+fn a_walk_gives_each_key_once_with_its_newest_value(rt: HostRuntime) -> Result<(), Fail> {
+    let alloc = rt.alloc();
+    let groups = collated(&rt, alloc, &PUTS, 1, 2)?;
+    let mut walk = walk_over(alloc, groups.as_slice(), FileKind::Kv)?;
+    assert!(rt; gives(&mut walk, 0xaa, 2, 2));
+    assert!(rt; gives(&mut walk, 0xbb, 3, 1));
+    assert!(rt; walk.next().is_none());
+    Ok(())
+}
+
+#[test]
+fn a_walk_over_lists_gives_those_of_each_input(rt: HostRuntime) -> Result<(), Fail> {
+    let alloc = rt.alloc();
+    let groups = collated(&rt, alloc, &PUTS, 1, 2)?;
+    let mut walk = walk_over(alloc, groups.as_slice(), FileKind::Ef)?;
+    assert!(rt; gives_lists(&mut walk, 0, 1));
+    Ok(())
+}
+
+#[test]
+fn a_walk_over_no_input_has_nothing_to_give(rt: HostRuntime) -> Result<(), Fail> {
+    let mut walk = walk_over(rt.alloc(), &[], FileKind::V)?;
+    assert!(rt; walk.next().is_none());
+    Ok(())
+}
+
+#[test]
+fn a_gap_is_found_where_it_is(rt: HostRuntime) -> Result<(), Fail> {
+    let alloc = rt.alloc();
+    let groups = collated(&rt, alloc, &DELETIONS, 1, 3)?;
+    let mut apart = Inputs::new(alloc);
+    for (i, group) in groups.into_vec().into_iter().enumerate() {
+        if i != 1 {
+            apart.push(group)?;
+        }
+    }
+    let range = Range { from: 0, to: 2 };
+    if is_aligned_range(range) {
+        let group = merge(alloc, apart.as_slice(), range);
+        assert_eq!(rt; group.err(), Some(MergeError::NotAdjacent(1)));
+    }
     Ok(())
 }

@@ -14,16 +14,16 @@ ghost use Rattle.merge_files.specs.Adjacent.{first_gap};
 ghost use Rattle.merge_files.specs.declared.error.MergeError.TheVariants.{NotAdjacent, Memory as NoMemory};
 
 use crate::adjacent::first_gap;
-use crate::befores::merged_befores;
 use crate::error::MergeError;
-use crate::lists::merged_lists;
-use crate::pairs::merged_pairs;
+use crate::history::merged_v;
+use crate::numbers::merged_ef;
+use crate::values::merged_kv;
 use agg_model::{Entity, Range};
 use agg_outside::Memory;
 use collate_step::EntityFiles;
-use domain_core::{KvFile, are_pairs, build_kv, kv_tag};
-use history_core::{VFile, are_befores, build_v, v_tag};
-use inverted_index::{EfFile, are_lists, build_ef, ef_tag};
+use domain_core::{KvFile, kv_tag};
+use history_core::{VFile, v_tag};
+use inverted_index::{EfFile, ef_tag};
 use std::alloc::Global;
 use std::sync::Arc;
 
@@ -43,12 +43,8 @@ fn kv_file(alloc: Global, whole: Whole, groups: &[Arc<EntityFiles>]) -> Result<K
         map (λ g. arc_value g) groups.now ≡ map (group_of list whole.entity) ranges →
         IfOk result (λ f. f ≡ kv_of list whole.entity whole.range) }
 {
-    let pairs = merged_pairs(alloc, whole.range.from, groups)?;
-    if !are_pairs(&pairs) {
-        return Err(Memory);
-    }
     let tag = kv_tag(whole.entity, whole.size, whole.range);
-    build_kv(alloc, tag, &pairs)
+    merged_kv(alloc, tag, whole.range.from, groups)
 }
 
 // The values before the changes. Rows of no list are answered as want of memory.
@@ -59,12 +55,8 @@ fn v_file(alloc: Global, whole: Whole, groups: &[Arc<EntityFiles>]) -> Result<VF
         map (λ g. arc_value g) groups.now ≡ map (group_of list whole.entity) ranges →
         IfOk result (λ f. f ≡ v_of list whole.entity whole.range) }
 {
-    let befores = merged_befores(alloc, groups)?;
     let tag = v_tag(whole.entity, whole.size, whole.range);
-    if !are_befores(tag, &befores) {
-        return Err(Memory);
-    }
-    build_v(alloc, tag, &befores)
+    merged_v(alloc, tag, groups)
 }
 
 // The numbers of the changes. Lists of no list of changes are answered as want of memory.
@@ -75,12 +67,8 @@ fn ef_file(alloc: Global, whole: Whole, groups: &[Arc<EntityFiles>]) -> Result<E
         map (λ g. arc_value g) groups.now ≡ map (group_of list whole.entity) ranges →
         IfOk result (λ f. f ≡ ef_file list.size list.changes whole.entity whole.range.from whole.range.to) }
 {
-    let lists = merged_lists(alloc, groups)?;
     let tag = ef_tag(whole.entity, whole.size, whole.range);
-    if !are_lists(tag, &lists) {
-        return Err(Memory);
-    }
-    build_ef(alloc, tag, &lists)
+    merged_ef(alloc, tag, groups)
 }
 
 // The files of the entity over the whole range.
