@@ -3,6 +3,7 @@
 import os
 import subprocess
 import tempfile
+import time
 from pathlib import Path
 
 TOP = Path(__file__).resolve().parent.parent
@@ -37,16 +38,24 @@ def built_twin(folder, name):
     return twin
 
 
-def run(command):
-    """The numbers that one run prints, and the seconds of processor time that it took."""
+def run_timed(command):
+    """The numbers that one run prints, and the seconds that it took of processor time and by the clock."""
     with tempfile.TemporaryFile() as out:
+        began = time.perf_counter()
         child = subprocess.Popen(command, stdout=out)
         _, status, used = os.wait4(child.pid, 0)
+        passed = time.perf_counter() - began
         child.returncode = os.waitstatus_to_exitcode(status)
         out.seek(0)
         if child.returncode != 0:
             raise NotMeasured(f"{command[0]} ended with status {child.returncode}")
-        return [int(word) for word in out.read().split()], used.ru_utime + used.ru_stime
+        return [int(word) for word in out.read().split()], used.ru_utime + used.ru_stime, passed
+
+
+def run(command):
+    """The numbers that one run prints, and the seconds of processor time that it took."""
+    numbers, seconds, _ = run_timed(command)
+    return numbers, seconds
 
 
 def cost(command, wanted):

@@ -1,5 +1,5 @@
 -- The group of one step fits.
-use Rattle.std.specs.Prelude.{◌≡◌, ℕ, ◌+◌, ◌-◌, ◌%◌, ◌≤◌, ◌<◌, ◌==◌, ◌&&◌, nat_le, true, refl}
+use Rattle.std.specs.Prelude.{◌≡◌, ℕ, ◌+◌, ◌-◌, ◌%◌, ◌<◌, ◌==◌, ◌&&◌, nat_le, true}
 use Rattle.std.proofs.Common.{sym, arith, subst, eq-eqb, le-leb}
 use Rattle.merge_ranges.specs.Cut.{is_size, is_aligned}
 use Rattle.collate_step.specs.Groups.{step_range}

@@ -1,11 +1,10 @@
 -- One group less to look into.
-use Rattle.std.proofs.Common.{◌≡◌, ℕ, ◌+◌, ◌-◌, ◌==◌, ◌<◌, ◌≤◌, Bool, true, false, cond, List, [], ◌∷◌, ◌++◌, map, length, get_or, take, Option, Some, None, refl, sym, ap, ◌∙◌, arith, append-nil}
+use Rattle.std.proofs.Common.{◌≡◌, ℕ, ◌+◌, ◌-◌, ◌==◌, ◌<◌, ◌≤◌, Bool, true, false, cond, List, [], ◌∷◌, ◌++◌, map, length, get_or, take, None, refl, sym, ap, ◌∙◌, arith, append-nil}
 use Rattle.std.specs.Option.{option_or}
 use Rattle.std.specs.List.{filter}
 use Rattle.std.proofs.lemmas.List.{take_more, map-append}
 use Rattle.std.proofs.lemmas.List.Elements.{filter-append}
 use Rattle.agg_model.specs.declared.entity.Entity.{Entity}
-use Rattle.agg_model.specs.declared.contents.Pair.{Pair}
 use Rattle.agg_model.specs.Entity.{entity_number}
 use Rattle.agg_model.specs.Pairs.{word_in, newest_word}
 use Rattle.agg_model.proofs.CoverageLaws.{newest_word-push}

@@ -1,16 +1,14 @@
 -- Runs of changes of one key, of changes that are sorted by it, are the keys with their numbers.
 use Rattle.std.specs.Prelude.{◌≡◌, ℕ, nat_eq, Bool, true, false, cond, List, [], ◌∷◌, ◌++◌, map, All, refl}
-use Rattle.std.proofs.Common.{get_or, sym, ◌∙◌, ap, subst, append_assoc, append-nil}
+use Rattle.std.proofs.Common.{get_or, sym, ◌∙◌, ap, subst, append_assoc}
 use Rattle.std.specs.List.{filter}
 use Rattle.std.specs.Ordering.{nat_cmp}
 use Rattle.std.specs.Cmp.{tied_itself}
 use Rattle.std.specs.Cmp.Lexicographic.{pointwise, slice_cmp, nat_list_cmp_total, bytes_decides}
-use Rattle.std.specs.declared.cmp.Ordering.{Ordering}
 use Rattle.std.specs.declared.cmp.Ordering.TheVariants.{Less, Equal}
-use Rattle.std.proofs.lemmas.List.Elements.{All-head, All-tail}
 use Rattle.agg_model.specs.declared.change.Change.{Change}
 use Rattle.agg_model.specs.declared.contents.Times.{Times}
-use Rattle.agg_model.specs.Contents.{goes_on, keys_of}
+use Rattle.agg_model.specs.Contents.{keys_of}
 use Rattle.agg_model.specs.Pairs.{IsBelow, KeysAscend}
 use Rattle.agg_model.proofs.ContentsLaws.{filter-none, KeysRise, ends_below, keys_of-All, keys_of-ascend, map-agree}
 use Rattle.content_laws.specs.Steps.{numbers_among, lists_among}

@@ -1,15 +1,14 @@
 -- The groups below a step tell the values before it, and the changes of a step stand by entity.
-use Rattle.std.specs.Prelude.{◌≡◌, ℕ, suc, ◌+◌, ◌*◌, ◌==◌, ◌≤◌, ◌<◌, ◌&&◌, nat_le, nat_lt, Bool, true, false, cond, List, [], ◌∷◌, ◌++◌, map, take, All, Option, Some, None, refl, unwrap_or}
-use Rattle.std.proofs.Common.{get_or, sym, ◌∙◌, ap, arith, subst, leb-true, eqb-true, le-leb, lt-ltb, le-ltb, ltb-true}
+use Rattle.std.specs.Prelude.{◌≡◌, ℕ, suc, ◌+◌, ◌*◌, ◌==◌, ◌≤◌, ◌<◌, ◌&&◌, nat_le, nat_lt, Bool, true, false, cond, List, [], ◌∷◌, map, drop, All, Some, None, refl, unwrap_or}
+use Rattle.std.proofs.Common.{sym, ◌∙◌, ap, arith, subst, leb-true, eqb-true, le-leb, ltb-true}
 use Rattle.std.specs.Option.{option_map}
 use Rattle.std.specs.List.{filter}
-use Rattle.std.proofs.lemmas.List.Elements.{All-head, All-tail, All-filter, filter_passes}
+use Rattle.std.proofs.lemmas.List.Elements.{All-filter, filter_passes}
 use Rattle.agg_model.specs.declared.entity.Entity.{Entity}
 use Rattle.agg_model.specs.declared.entity.Entity.TheVariants.{Accounts, Storage, Code, LogAddrs, LogTopics, TracesFrom, TracesTo}
 use Rattle.agg_model.specs.declared.entity.Range.{Range}
 use Rattle.agg_model.specs.declared.change.Change.{Change}
-use Rattle.agg_model.specs.declared.contents.Pair.{Pair}
-use Rattle.agg_model.specs.Entity.{entity_number, is_domain_entity}
+use Rattle.agg_model.specs.Entity.{entity_number}
 use Rattle.agg_model.specs.Place.{place_of, is_before}
 use Rattle.agg_model.specs.Arranged.{arranged}
 use Rattle.agg_model.specs.ChangeList.{ChangeList, IsChangeList, value_at}
@@ -17,13 +16,13 @@ use Rattle.agg_model.specs.Contents.{is_within, changes_over, v_contents, kv_con
 use Rattle.agg_model.specs.Pairs.{held_value, newest_word}
 use Rattle.agg_model.proofs.ArrangedLaws.{IsInOrder, arranged-IsInOrder}
 use Rattle.agg_model.proofs.ContentsLaws.{filter-arranged}
-use Rattle.content_laws.specs.Parts.{Adjoin, kv_files}
+use Rattle.content_laws.specs.Parts.{kv_files}
 use Rattle.content_laws.specs.Steps.{befores_behind}
 use Rattle.content_laws.proofs.PairParts.{value-parts}
 use Rattle.content_laws.proofs.StepBefores.{v-behind}
 use Rattle.domain_core.specs.KvFile.{TaggedPairs}
-use Rattle.collate_step.specs.Runs.{is_numbered, is_behind}
-use Rattle.collate_step.specs.Groups.{GroupFiles, kv_of, group_of, groups_for, pairs_of, pairs_for, value_in_groups, AreGroupsBelow, is_in_step, step_changes, entities, IsDomain}
+use Rattle.collate_step.specs.Runs.{is_numbered, is_behind, is_from}
+use Rattle.collate_step.specs.Groups.{GroupFiles, kv_of, group_of, pairs_of, value_in_groups, AreGroupsBelow, is_in_step, step_changes, entities, IsDomain}
 
 -- ---- values
 
@@ -49,10 +48,6 @@ befores-step list e step groups valid domain below =
     ∙ sym (v-behind list.size list.changes e step (step + 1) valid.ascend valid.no_repeats)
 
 -- ---- entities
-
--- the change is one of the entity with this number, or of one behind it
-abbrev pub is_from : ℕ → Change → Bool
-is_from n c = nat_le n (entity_number c.entity)
 
 filter-order-by : (p : Change → Bool) (c : Change) (cs : List Change) (t : Bool) → IsInOrder (c ∷ cs) → IsInOrder (filter p cs) → IsInOrder (cond t (c ∷ filter p cs) (filter p cs))
 filter-order-by p c cs true order rest = (All-filter p (λ x. is_before (place_of x) (place_of c) ≡ false) cs order.0, rest)
@@ -123,13 +118,67 @@ from-zero [] = refl
 from-zero (c ∷ cs) =
     λ i. cond (le-leb 0 (entity_number c.entity) (omega arith) i) (c ∷ from-zero cs i) (from-zero cs i)
 
--- behind the entities with lower numbers comes the entity
-pub entity-next : (e : Entity) → take (entity_number e + 1) entities ≡ take (entity_number e) entities ++ e ∷ []
+-- the entities from one on begin with it
+pub entities-from : (e : Entity) → drop (entity_number e) entities ≡ e ∷ drop (entity_number e + 1) entities
 unfolding entity_number
-entity-next Accounts = refl
-entity-next Storage = refl
-entity-next Code = refl
-entity-next LogAddrs = refl
-entity-next LogTopics = refl
-entity-next TracesFrom = refl
-entity-next TracesTo = refl
+entities-from Accounts = refl
+entities-from Storage = refl
+entities-from Code = refl
+entities-from LogAddrs = refl
+entities-from LogTopics = refl
+entities-from TracesFrom = refl
+entities-from TracesTo = refl
+
+-- none has a number above that of the last
+pub none-behind : (e : Entity) → 7 ≤ entity_number e + 1 → drop (entity_number e + 1) entities ≡ []
+unfolding entity_number
+none-behind Accounts h = absurd (omega (arith, h))
+none-behind Storage h = absurd (omega (arith, h))
+none-behind Code h = absurd (omega (arith, h))
+none-behind LogAddrs h = absurd (omega (arith, h))
+none-behind LogTopics h = absurd (omega (arith, h))
+none-behind TracesFrom h = absurd (omega (arith, h))
+none-behind TracesTo h = refl
+
+pub number-low : (e : Entity) → entity_number e < 7
+unfolding entity_number
+number-low Accounts = omega arith
+number-low Storage = omega arith
+number-low Code = omega arith
+number-low LogAddrs = omega arith
+number-low LogTopics = omega arith
+number-low TracesFrom = omega arith
+number-low TracesTo = omega arith
+
+-- the first group from an entity on, and the others
+pub groups-from : (f : Entity → GroupFiles) (e : Entity) → f e ∷ map f (drop (entity_number e + 1) entities) ≡ map f (drop (entity_number e) entities)
+groups-from f e = sym (ap (map f) (entities-from e))
+
+-- all changes and all groups are those from the accounts on
+pub from-accounts : (cs : List Change) → cs ≡ filter (is_from (entity_number Accounts)) cs
+unfolding entity_number
+from-accounts cs = sym (from-zero cs)
+
+pub groups-all : (f : Entity → GroupFiles) → map f (drop (entity_number Accounts) entities) ≡ map f entities
+unfolding entity_number
+groups-all f = refl
+
+-- the changes of an entity in a step and those behind them are what a split at its run gives
+pub record AreRuns (list : ChangeList) (step : ℕ) (e : Entity) (mine behind : List Change) : Type 0 where
+  pub run : mine ≡ changes_over list.size list.changes e step (step + 1)
+  pub others : behind ≡ filter (is_from (entity_number e + 1)) (step_changes list step)
+
+pub runs-of : (list : ChangeList) (step : ℕ) (e : Entity) (rest run others : List Change)
+    → rest ≡ filter (is_from (entity_number e)) (step_changes list step)
+    → (IsInOrder rest → All (λ c. entity_number e ≤ entity_number c.entity) rest → run ≡ filter (is_numbered (entity_number e)) rest)
+    → (IsInOrder rest → All (λ c. entity_number e ≤ entity_number c.entity) rest → others ≡ filter (is_behind (entity_number e)) rest)
+    → AreRuns list step e run others
+runs-of list step e rest run others from is_run is_rest =
+    let all = step_changes list step in
+    let n = entity_number e in
+    let order = subst IsInOrder (sym from) (filter-order (is_from n) all (arranged-IsInOrder (filter (is_in_step list.size step) list.changes))) in
+    let low = subst (All (λ (c : Change). n ≤ entity_number c.entity)) (sym from) (from-All n all) in
+    record {
+      run = is_run order low ∙ ap (filter (is_numbered n)) from ∙ run-is n all ∙ changes-of list e step;
+      others = is_rest order low ∙ ap (filter (is_behind n)) from ∙ rest-is n all;
+    }

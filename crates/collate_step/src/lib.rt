@@ -8,6 +8,7 @@ mod laws;
 mod lists;
 mod runs;
 mod shared;
+mod side;
 mod step;
 
 pub use earlier::newest_word;

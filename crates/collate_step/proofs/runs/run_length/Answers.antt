@@ -1,5 +1,5 @@
 use Rattle.agg_model.specs.declared.change.Change.{Change}
-use Rattle.std.proofs.Common.{◌≡◌, ℕ, ◌+◌, ◌≤◌, ◌<◌, length, inl, inr, sym, ◌∙◌, ap, arith, subst, slice_get, get_or, Some}
+use Rattle.std.proofs.Common.{◌≡◌, ℕ, ◌+◌, ◌≤◌, ◌<◌, length, inl, inr, sym, ◌∙◌, ap, arith, slice_get}
 use Rattle.std.proofs.Math.Nat.{eq-or-lt_of_le}
 use Rattle.std.proofs.lemmas.Option.{get_or_from_slice_get, slice_get_past}
 use Rattle.agg_model.specs.Entity.{entity_number}
