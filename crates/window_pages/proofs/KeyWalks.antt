@@ -18,6 +18,7 @@ use Rattle.hashed_words.proofs.PairedLaws.{IsPaired-paired_words, key_at-paired_
 use Rattle.inverted_index.specs.EfFile.{list_keys, pair_of, words_of, numbers_of}
 use Rattle.inverted_index.proofs.ListWords.{keys-pairs, key_count-words_of}
 use Rattle.window_laws.specs.Pages.{IsNext}
+use Rattle.window_pages.specs.Places.{next_from}
 use Rattle.window_pages.specs.Starts.{key_in, IsStart}
 
 abbrev pub order : List ℕ → List ℕ → Ordering
@@ -83,13 +84,6 @@ module _ (ts : List Times) (first : List ℕ) where
 
   abbrev AreBelow : ℕ → Type 0
   AreBelow place = (p : ℕ) → p < place → IsBelow (key_in ts p) first
-
-  -- all keys are below the first one
-  pub next-ended : (place : ℕ) → length ts ≤ place → AreBelow place → IsNext (λ k. unwrap_or (numbers_of ts k) []) first None
-  next-ended place all before = record {
-    from = tt;
-    passed = λ k from under. ap (λ o. unwrap_or o []) (none-of ts k (λ p below is. below-first k first (subst (λ l. IsBelow l first) is (before p (omega (arith, all, below)))) from));
-  }
 
   -- the key at the place is the first that isn't
   pub next-found : (place : ℕ) (key : List ℕ) → KeysAscend (list_keys ts) → place < length ts → AreBelow place → key_in ts place ≡ key → is_lt (order key first) ≡ false
@@ -174,8 +168,8 @@ module _ (ts : List Times) where
   pub no-lists : None ≡ offset_of (words_of ts) 0 → ts ≡ []
   no-lists none = empty-by ts (past 0 none)
 
-  pub next-empty : (first : List ℕ) → ts ≡ [] → IsNext (λ k. unwrap_or (numbers_of ts k) []) first None
-  next-empty first none = record { from = tt; passed = λ k from under. ap (λ us. unwrap_or (numbers_of us k) []) none }
+  pub next-empty : (first : List ℕ) → ts ≡ [] → None ≡ next_from first ts
+  next-empty first none = ap (next_from first) (sym none)
 
 -- ---- answers that are passed on
 
@@ -196,7 +190,7 @@ pub record IsWalked (ts : List Times) (first : List ℕ) (at seen : ℕ) : Type 
   pub before : (p : ℕ) → p < place → IsBelow (key_in ts p) first
   pub far : seen ≤ place
 
-told-so : (one other : Times) → Some one ≡ Some other → one ≡ other
+pub told-so : (one other : Times) → Some one ≡ Some other → one ≡ other
 told-so one other h = cc
 
 key-of-pair : (us : List Times) (place : ℕ) (key items : List ℕ) → slice_get us place ≡ Some (record { key = key; items = items }) → key_in us place ≡ key
@@ -215,17 +209,44 @@ one-more ts first place key items before pair low p below = by (nat_lt p place) 
         let one : p ≡ place = omega (arith, below, ltb-false p place e) in
         ap (λ k. order k first) (ap (key_in ts) one ∙ key-of-pair ts place key items pair) ∙ below-is (order key first) low
 
+not-from : (k first : List ℕ) → IsBelow k first → is_from (Some first) k ≡ false
+not-from k first low = ap (λ r. not (is_lt r)) low
+
+find-below : (ts : List Times) (first : List ℕ) → ((p : ℕ) → p < length ts → IsBelow (key_in ts p) first) → next_from first ts ≡ None
+find-below [] first low = refl
+find-below (t ∷ ts) first low =
+    (λ i. cond (not-from t.key first (low zero (omega arith)) i) (Some t.key) (next_from first ts))
+    ∙ find-below ts first (λ p below. low (suc p) (omega (arith, below)))
+
+find-found : (ts : List Times) (first : List ℕ) (place : ℕ) (key items : List ℕ) → ((p : ℕ) → p < place → IsBelow (key_in ts p) first)
+    → slice_get ts place ≡ Some (record { key = key; items = items }) → is_lt (order key first) ≡ false → next_from first ts ≡ Some key
+find-found [] first zero key items low is high = cc
+find-found [] first (suc place) key items low is high = cc
+find-found (t ∷ ts) first zero key items low is high =
+    let same : t.key ≡ key = ap (λ (u : Times). u.key) (told-so t (record { key = key; items = items }) is) in
+    let from : is_from (Some first) t.key ≡ true = ap not (ap (λ k. is_lt (order k first)) same ∙ high) in
+    (λ i. cond (from i) (Some t.key) (next_from first ts)) ∙ ap (λ k. Some k) same
+find-found (t ∷ ts) first (suc place) key items low is high =
+    (λ i. cond (not-from t.key first (low zero (omega arith)) i) (Some t.key) (next_from first ts))
+    ∙ find-found ts first place key items (λ p below. low (suc p) (omega (arith, below))) is high
+
 module _ (ts : List Times) (first : List ℕ) (at seen : ℕ) (w : IsWalked ts first at seen) where
-  -- the key there isn't below the first one
-  pub walked-found : (key items : List ℕ) → KeysAscend (list_keys ts) → slice_get ts w.place ≡ Some (record { key = key; items = items }) → is_lt (order key first) ≡ false
-      → IsNext (λ k. unwrap_or (numbers_of ts k) []) first (Some key)
-  walked-found key items up pair high =
-      next-found ts first w.place key up (pair-within ts at w.place w.pair) w.before (key-of-pair ts w.place key items pair) high
+  -- the key there is the first that isn't below the first one, and there it stands
+  pub walked-found : (key items : List ℕ) → slice_get ts w.place ≡ Some (record { key = key; items = items }) → is_lt (order key first) ≡ false → Some key ≡ next_from first ts
+  walked-found key items pair high = sym (find-found ts first w.place key items w.before pair high)
+
+  pub walked-there : (key items : List ℕ) → slice_get ts w.place ≡ Some (record { key = key; items = items }) → IsKeyAt (words_of ts) key at
+  walked-there key items pair = record {
+    place = w.place;
+    within = w.pair.within;
+    key_is = key-at-pair ts w.place ∙ key-of-pair ts w.place key items pair;
+    offset_is = w.pair.offset;
+  }
 
   -- it is the last one
-  pub walked-out : (key items : List ℕ) → slice_get ts w.place ≡ Some (record { key = key; items = items }) → is_lt (order key first) ≡ true → length ts ≤ w.place + 1
-      → IsNext (λ k. unwrap_or (numbers_of ts k) []) first None
-  walked-out key items pair low last = next-ended ts first (w.place + 1) last (one-more ts first w.place key items w.before pair low)
+  pub walked-out : (key items : List ℕ) → slice_get ts w.place ≡ Some (record { key = key; items = items }) → is_lt (order key first) ≡ true → length ts ≤ w.place + 1 → None ≡ next_from first ts
+  walked-out key items pair low last =
+      sym (find-below ts first (λ p below. one-more ts first w.place key items w.before pair low p (omega (arith, below, last))))
 
   -- one key more
   pub walked-on : (key items : List ℕ) (behind : ℕ) → slice_get ts w.place ≡ Some (record { key = key; items = items }) → is_lt (order key first) ≡ true → IsPairAt (words_of ts) behind (w.place + 1)

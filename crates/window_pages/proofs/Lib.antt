@@ -1,3 +1,6 @@
 pub mod KeyWalks
+pub mod Places
+pub mod Changes
+pub mod Finds
 pub mod NextKeys
 pub mod PageRows

@@ -12,11 +12,11 @@ use Rattle.agg_model.specs.Listed.{is_under, limited, range, history, index}
 use Rattle.collate_step.specs.Groups.{GroupFiles}
 use Rattle.window_laws.specs.Pages.{IsNext, behind_key, row_at, row_with}
 use Rattle.window_laws.proofs.Listed.{range-open, range-some, range-ends, range-none, history-open, history-some, history-none}
-use Rattle.window_reads.specs.Standing.{Stand}
 use Rattle.window_reads.proofs.NumberWalks.{take-short, take-full}
 use Rattle.window_pages.specs.declared.asked.Asked.{Asked}
 use Rattle.window_pages.specs.declared.asked.Asked.TheVariants.{Values, Changes}
 use Rattle.window_pages.specs.Looks.{Takes}
+use Rattle.window_pages.specs.Standing.{StandFor}
 use Rattle.window_pages.specs.Asking.{number_from, number_to, bound_of, row_for, rows_for}
 
 -- ---- a page
@@ -110,10 +110,10 @@ module _ (list : ChangeList) (e : Entity) where
 
 -- ---- a window that is later
 
-pub stand-later : (list : ChangeList) (files : List GroupFiles) (size : ℕ) (told told' : Option (List Change)) (end end' at at' : ℕ) → told' ≡ told → end' ≡ end → at' ≡ at
-    → Stand list files told size end at → Stand list files told' size end' at'
-stand-later list files size told told' end end' at at' one two three stand =
-    subst (λ o. Stand list files o size end' at') (sym one) (subst (λ n. Stand list files told size n at') (sym two) (subst (λ n. Stand list files told size end n) (sym three) stand))
+pub stand-later : (list : ChangeList) (e : Entity) (groups : List GroupFiles) (size : ℕ) (told told' : Option (List Change)) (end end' at at' : ℕ) → told' ≡ told → end' ≡ end → at' ≡ at
+    → StandFor list e groups told size end at → StandFor list e groups told' size end' at'
+stand-later list e groups size told told' end end' at at' one two three stand =
+    subst (λ o. StandFor list e groups o size end' at') (sym one) (subst (λ n. StandFor list e groups told size n at') (sym two) (subst (λ n. StandFor list e groups told size end n) (sym three) stand))
 
 -- ---- where the rows begin
 
@@ -127,27 +127,5 @@ history-start list e a b (Some from) start is = ap (λ k. history list.changes e
 
 -- ---- the row of a key
 
-pub as-of-value : (list : ChangeList) (e : Entity) (k l : List ℕ) (n : ℕ) (v : Option (List ℕ)) → k ≡ l → v ≡ as_of list e k n → v ≡ value_at list.changes e l n
-unfolding as_of
-as-of-value list e k l n v same is = is ∙ ap (λ m. value_at list.changes e m n) same
-
-pub index-up : (list : ChangeList) (e : Entity) (k l : List ℕ) (a b : ℕ) → k ≡ l → index list.changes e k a b false ≡ times list.changes e l a b
-unfolding index
-index-up list e k l a b same = ap (λ m. times list.changes e m a b) same
-
 abbrev pub one_row : List ℕ → Option (List ℕ) → PageRow
 one_row k value = record { key = k; value = value }
-
-module _ (k : List ℕ) (value : Option (List ℕ)) where
-  pub row-none : (items ns : List ℕ) (more : Option ℕ) → (items, more) ≡ limited {A = ℕ} {B = ℕ} (λ t. t) 1 ns → length items ≡ 0 → [] ≡ row_at k value ns
-  row-none items [] more is none = refl
-  row-none items (n ∷ ns) more is none =
-      let one : length items ≡ 1 = ap (λ p. length p.0) is in
-      absurd (omega (arith, one, none))
-
-  pub row-some : (items ns : List ℕ) (more : Option ℕ) → (items, more) ≡ limited {A = ℕ} {B = ℕ} (λ t. t) 1 ns → (length items ≡ 0 → ⊥)
-      → one_row k value ∷ [] ≡ row_at k value ns
-  row-some items [] more is some =
-      let one : length items ≡ 0 = ap (λ p. length p.0) is in
-      absurd (some one)
-  row-some items (n ∷ ns) more is some = refl

@@ -2,6 +2,7 @@
 #![tactic(auto)]
 
 mod asked;
+mod cursors;
 mod keys;
 mod lists;
 mod look;
@@ -9,6 +10,7 @@ mod order;
 mod pages;
 mod reads;
 mod rows;
+mod values;
 
 pub use pages::Page;
 pub use reads::{read_history, read_range};

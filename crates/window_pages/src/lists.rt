@@ -1,9 +1,10 @@
 //! The keys of a group from one on, by its `.ef` file.
-ghost use Rattle.std.specs.Prelude.{◌≡◌, ℕ, ◌+◌, ◌<◌, ◌≤◌, [], List, length, unwrap_or, IfSome, IfNone};
-ghost use Rattle.std.specs.Option.{option_copied};
+ghost use Rattle.std.specs.Prelude.{◌≡◌, ℕ, ◌+◌, ◌<◌, ◌≤◌, [], List, length, IfSome, IfNone};
+ghost use Rattle.std.specs.Option.{option_map};
 ghost use Rattle.hashed_words.specs.Hashed.{IsPairAt, StartsPair};
-ghost use Rattle.inverted_index.specs.EfFile.{words_of, numbers_of};
-ghost use Rattle.window_laws.specs.Pages.{IsNext};
+ghost use Rattle.inverted_index.specs.EfFile.{words_of};
+ghost use Rattle.recsplit_index.specs.Keys.{IsKeyAt};
+ghost use Rattle.window_pages.specs.Places.{next_from};
 ghost use Rattle.window_pages.specs.Starts.{IsStart};
 
 use crate::order::is_below;
@@ -63,21 +64,12 @@ fn first_pair(ef: &EfFile) -> Option<u64>
     ef.words().first()
 }
 
-// Where the walk begins: at the last key that was found, if the file has it and it is below, or at the last key of
-// `.kv` that is, or else at the first one.
-fn start_in<L: Ledger>(
-    group: &EntityFiles,
-    first: &[u8],
-    last: &[u8],
-    steps: &mut Steps<L>,
-) -> Option<u64>
+// Where the walk begins: at the last key of `.kv` that is below the first one, or else at the first key.
+fn start_in<L: Ledger>(group: &EntityFiles, first: &[u8], steps: &mut Steps<L>) -> Option<u64>
     ensures start { IfSome result (IsStart group.now.ef.lists first.now) }
     ensures none { IfNone result (group.now.ef.lists ≡ []) }
 {
     let ef = group.ef();
-    if let Some(at) = start_at(ef, last, first, steps) {
-        return Some(at);
-    }
     if let Some(key) = key_before(group, first, steps) {
         if let Some(at) = start_at(ef, key, first, steps) {
             return Some(at);
@@ -86,17 +78,18 @@ fn start_in<L: Ledger>(
     first_pair(ef)
 }
 
-// The first key from the start on that isn't below the first one.
-fn key_from<'a>(ef: &'a EfFile, first: &[u8], start: u64) -> Option<&'a [u8]>
+/// The first key from the start on that isn't below the first one, and the offset of its pair.
+pub(crate) fn key_from<'a>(ef: &'a EfFile, first: &[u8], start: u64) -> Option<(&'a [u8], u64)>
     requires { IsStart ef.now.lists first.now start }
-    ensures { IsNext (λ k. unwrap_or (numbers_of ef.now.lists k) []) first.now (option_copied result) }
+    ensures next { option_map (λ p. p.0.now) result ≡ next_from first.now ef.now.lists }
+    ensures there { IfSome result (λ p. IsKeyAt (words_of ef.now.lists) p.0.now p.1) }
 {
     let words = ef.words();
     let mut at = start;
     for _pair in 0..words.count() {
         let (key, _numbers) = ef.pair_at(at);
         if !is_below(key, first) {
-            return Some(key);
+            return Some((key, at));
         }
         let Some(behind) = pair_behind(ef, at) else {
             return None;
@@ -109,29 +102,25 @@ fn key_from<'a>(ef: &'a EfFile, first: &[u8], start: u64) -> Option<&'a [u8]>
 fn next_uncounted<'a, L: Ledger>(
     group: &'a EntityFiles,
     first: &[u8],
-    last: &[u8],
     blank: Blank,
-) -> Option<&'a [u8]>
+) -> Option<(&'a [u8], u64)>
     requires name { blank.name ≡ L.name }
     requires parts { blank.parts ≡ L.parts }
     requires some { 0 < L.parts }
-    ensures { IsNext (λ k. unwrap_or (numbers_of group.now.ef.lists k) []) first.now (option_copied result) }
+    ensures next { option_map (λ p. p.0.now) result ≡ next_from first.now group.now.ef.lists }
+    ensures there { IfSome result (λ p. IsKeyAt (words_of group.now.ef.lists) p.0.now p.1) }
 {
     let mut steps = Steps::<L>::of(blank);
-    let Some(start) = start_in(group, first, last, &mut steps) else {
+    let Some(start) = start_in(group, first, &mut steps) else {
         return None;
     };
     key_from(group.ef(), first, start)
 }
 
-/// The next key of a group from the first one on. The walk begins at the last key that was found where the file has
-/// it, so that keys that stand in `.ef` alone are gone over once.
-pub(crate) fn next_in_group<'a>(
-    group: &'a EntityFiles,
-    first: &[u8],
-    last: &[u8],
-) -> Option<&'a [u8]>
-    ensures { IsNext (λ k. unwrap_or (numbers_of group.now.ef.lists k) []) first.now (option_copied result) }
+/// The first key of a group that isn't below this one, and the offset of its pair.
+pub(crate) fn next_in_group<'a>(group: &'a EntityFiles, first: &[u8]) -> Option<(&'a [u8], u64)>
+    ensures next { option_map (λ p. p.0.now) result ≡ next_from first.now group.now.ef.lists }
+    ensures there { IfSome result (λ p. IsKeyAt (words_of group.now.ef.lists) p.0.now p.1) }
 {
-    next_uncounted::<Brand>(group, first, last, Blank::new(1))
+    next_uncounted::<Brand>(group, first, Blank::new(1))
 }

@@ -1,120 +1,109 @@
 //! The row of a key.
-ghost use Rattle.std.specs.Prelude.{◌≡◌, map, IfOk, IfErr};
-ghost use Rattle.std.specs.Arc.{arc_value};
+ghost use Rattle.std.specs.Prelude.{◌≡◌, List, IfOk, IfErr};
 ghost use Rattle.std.specs.Option.{option_to_list};
 ghost use Rattle.agg_outside.specs.Counts.{HasCause};
 ghost use Rattle.agg_model.specs.ChangeList.{ChangeList, value_at};
 ghost use Rattle.agg_model.specs.Contents.{times};
-ghost use Rattle.collate_step.specs.Groups.{IsDomain};
-ghost use Rattle.hot_keeper.specs.declared.error.ReadError.TheVariants.{Memory as NoMemory};
+ghost use Rattle.collate_step.specs.Groups.{GroupFiles, IsDomain};
 ghost use Rattle.window_laws.specs.Pages.{row_with, row_at};
-ghost use Rattle.window_reads.specs.Standing.{Stand};
+ghost use Rattle.window_pages.specs.Standing.{StandFor, StandsAt};
 ghost use Rattle.window_pages.specs.Asking.{row_for};
 
 use crate::asked::Asked;
-use agg_model::{Entity, PageRow};
+use crate::cursors::Cursor;
+use crate::values::{has_change, value_before};
+use agg_model::{Entity, PageRow, Range};
 use agg_outside::Bytes;
-use collate_step::EntityFiles;
 use std::alloc::Global;
-use std::sync::Arc;
-use window_reads::{ReadError, Window, copied, read_as_of, read_index};
+use window_reads::{ReadError, Window};
 
 // The key with its value, where it has one.
-fn row_held(alloc: Global, key: &Bytes, value: Option<Bytes>) -> Result<Option<PageRow>, ReadError>
-    ensures ok { IfOk result (λ row. option_to_list row ≡ row_with key.now value) }
-    ensures err { IfErr result (λ e. e ≡ NoMemory) }
+fn row_held(key: Bytes, value: Option<Bytes>) -> Option<PageRow>
+    ensures { option_to_list result ≡ row_with key value }
 {
     let Some(value) = value else {
-        return Ok(None);
+        return None;
     };
-    let key = copied(alloc, key.as_slice())?;
-    Ok(Some(PageRow {
+    Some(PageRow {
         key,
         value: Some(value),
-    }))
+    })
 }
 
 // The key with its value just before `n`, where it has one.
 fn row_with<W: Window>(
     alloc: Global,
-    files: &[Arc<EntityFiles>],
+    cursors: &[Cursor<'_>],
     window: &mut W,
     size: u64,
     entity: Entity,
     n: u64,
-    key: &Bytes,
+    key: Bytes,
 ) -> Result<Option<PageRow>, ReadError>
-    ensures row { (list : ChangeList) →
-        Stand list (map (λ g. arc_value g) files.now) (W.changes window.old) size (W.first_step window.old)
-        (W.next_number window.old) →
-        IsDomain entity → IfOk result (λ row. option_to_list row ≡ row_with key.now (value_at list.changes entity key.now n)) }
+    ensures row { (list : ChangeList) (groups : List GroupFiles) →
+        StandFor list entity groups (W.changes window.old) size (W.first_step window.old) (W.next_number window.old) →
+        IsDomain entity → StandsAt key cursors.now groups →
+        IfOk result (λ row. option_to_list row ≡ row_with key (value_at list.changes entity key n)) }
     ensures later { W.later window.old window.new }
     ensures cause { HasCause ReadError.Keeper (W.faults window.old) (W.faults window.new) result }
 {
-    let value = read_as_of(alloc, files, window, size, entity, n, key.as_slice())?;
-    row_held(alloc, key, value)
+    let value = value_before(alloc, cursors, window, size, entity, n, key.as_slice())?;
+    Ok(row_held(key, value))
 }
 
-// The key with its value just before `a`, where it changed from there on and below `b`.
+// The key with its value just before the first of the numbers, where it changed at one of them.
 fn row_at<W: Window>(
     alloc: Global,
-    files: &[Arc<EntityFiles>],
+    cursors: &[Cursor<'_>],
     window: &mut W,
     size: u64,
     entity: Entity,
-    a: u64,
-    b: u64,
-    key: &Bytes,
+    numbers: Range,
+    key: Bytes,
 ) -> Result<Option<PageRow>, ReadError>
-    ensures row { (list : ChangeList) →
-        Stand list (map (λ g. arc_value g) files.now) (W.changes window.old) size (W.first_step window.old)
-        (W.next_number window.old) →
-        IsDomain entity → IfOk result (λ row. option_to_list row
-        ≡ row_at key.now (value_at list.changes entity key.now a) (times list.changes entity key.now a b)) }
+    ensures row { (list : ChangeList) (groups : List GroupFiles) →
+        StandFor list entity groups (W.changes window.old) size (W.first_step window.old) (W.next_number window.old) →
+        IsDomain entity → StandsAt key cursors.now groups →
+        IfOk result (λ row. option_to_list row ≡ row_at key (value_at list.changes entity key numbers.from)
+        (times list.changes entity key numbers.from numbers.to)) }
     ensures later { W.later window.old window.new }
     ensures cause { HasCause ReadError.Keeper (W.faults window.old) (W.faults window.new) result }
 {
-    let changes = read_index(
-        alloc,
-        files,
-        window,
-        size,
-        entity,
-        key.as_slice(),
-        a,
-        b,
-        false,
-        1,
-    )?;
-    if changes.items.len() == 0 {
+    let bytes = key.as_slice();
+    let has = has_change(alloc, cursors, window, entity, bytes, numbers)?;
+    if !has {
         return Ok(None);
     }
-    let value = read_as_of(alloc, files, window, size, entity, a, key.as_slice())?;
-    let key = copied(alloc, key.as_slice())?;
+    let value = value_before(alloc, cursors, window, size, entity, numbers.from, bytes)?;
     Ok(Some(PageRow { key, value }))
 }
 
-/// The row of a key, where it has one.
+/// The row of a key, where it has one. Of the cursors, which stand from no key above it on, those that stand at it
+/// are looked into.
 pub(crate) fn row_of<W: Window>(
     alloc: Global,
-    files: &[Arc<EntityFiles>],
+    cursors: &[Cursor<'_>],
     window: &mut W,
     size: u64,
     entity: Entity,
     asked: &Asked,
-    key: &Bytes,
+    key: Bytes,
 ) -> Result<Option<PageRow>, ReadError>
-    ensures row { (list : ChangeList) →
-        Stand list (map (λ g. arc_value g) files.now) (W.changes window.old) size (W.first_step window.old)
-        (W.next_number window.old) →
-        IsDomain entity → IfOk result (λ row. option_to_list row ≡ row_for list entity asked.now key.now) }
+    ensures row { (list : ChangeList) (groups : List GroupFiles) →
+        StandFor list entity groups (W.changes window.old) size (W.first_step window.old) (W.next_number window.old) →
+        IsDomain entity → StandsAt key cursors.now groups →
+        IfOk result (λ row. option_to_list row ≡ row_for list entity asked.now key) }
     ensures later { W.later window.old window.new }
     ensures cause { HasCause ReadError.Keeper (W.faults window.old) (W.faults window.new) result }
 {
     match asked {
-        Asked::Values { n, .. } => row_with(alloc, files, window, size, entity, *n, key),
+        Asked::Values { n, .. } => row_with(alloc, cursors, window, size, entity, *n, key),
         Asked::Changes { from, to } => {
-            row_at(alloc, files, window, size, entity, *from, *to, key)
+            let numbers = Range {
+                from: *from,
+                to: *to,
+            };
+            row_at(alloc, cursors, window, size, entity, numbers, key)
         }
     }
 }

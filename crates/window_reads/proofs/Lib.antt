@@ -1,3 +1,4 @@
 pub mod NumberWalks
 pub mod Stands
 pub mod NumberPages
+pub mod Outside

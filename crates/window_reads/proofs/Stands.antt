@@ -59,7 +59,7 @@ word-same-by bs k n (Some ns) = by (find (nat_le n) ns)
     by None = refl
     by (Some t) = before-same bs k t
 
-word-same : (size : ℕ) (g : GroupFiles) (k : List ℕ) (n : ℕ) → word_before_in g k n ≡ word_before (part_in size g) k n
+pub word-same : (size : ℕ) (g : GroupFiles) (k : List ℕ) (n : ℕ) → word_before_in g k n ≡ word_before (part_in size g) k n
 word-same size g k n =
     word-same-by (befores_of g) k n (ef.numbers_of g.ef.lists k)
     ∙ ap (λ o. option_and_then (λ t. before_in (befores_of g) k t) (find (nat_le n) (unwrap_or o []))) (numbers-same g.ef.lists k)
@@ -99,7 +99,7 @@ module _ (size : ℕ) (e : Entity) (k : List ℕ) where
     numbers-by g fs rest true is = (λ i. filter (is_between a b) (unwrap_or (numbers-same g.ef.lists k i) []) ++ is i)
     numbers-by g fs rest false is = is
 
-    numbers-all : (gs : List GroupFiles) → numbers_in_groups e k a b gs ≡ numbers_between (parts_for size e gs) k a b
+    pub numbers-all : (gs : List GroupFiles) → numbers_in_groups e k a b gs ≡ numbers_between (parts_for size e gs) k a b
     numbers-all [] = refl
     numbers-all (g ∷ gs) = numbers-by g (groups_for e gs) (numbers_in_groups e k a b gs) (entity_number g.entity == entity_number e) (numbers-all gs)
 

@@ -20,7 +20,7 @@ pub fn copied(alloc: Global, bytes: &[u8]) -> Result<Bytes, ReadError>
 }
 
 /// The value that a stored word is; the empty word, and no word, are none.
-pub(crate) fn value_in(alloc: Global, word: Option<&[u8]>) -> Result<Option<Bytes>, ReadError>
+pub fn value_in(alloc: Global, word: Option<&[u8]>) -> Result<Option<Bytes>, ReadError>
     ensures ok { IfOk result (λ value. value ≡ held_value (option_copied word.entry)) }
     ensures err { IfErr result (λ e. e ≡ NoMemory) }
 {

@@ -10,11 +10,12 @@ mod reads;
 mod value;
 mod window;
 
-pub use copies::copied;
+pub use copies::{copied, value_in};
 pub use hot_keeper::ReadError;
-pub use looks::is_of;
+pub use looks::{ends_by, is_of};
 pub use page::TimesPage;
 pub use reads::{read_as_of, read_index, read_latest};
+pub use value::value_of_act;
 pub use window::Window;
 
 #[cfg(test)]

@@ -21,8 +21,8 @@ pub fn is_of(group: &EntityFiles, entity: Entity) -> bool
     group.entity().number() == entity.number()
 }
 
-// Whether the steps of the group end by the number.
-fn ends_by(group: &EntityFiles, size: u64, n: u64) -> bool
+/// Whether the steps of the group end by the number.
+pub fn ends_by(group: &EntityFiles, size: u64, n: u64) -> bool
     ensures { result ≡ nat_le (group.now.range.to * size) n }
 {
     u128::from(group.range().to) * u128::from(size) <= u128::from(n)

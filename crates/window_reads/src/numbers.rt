@@ -1,8 +1,11 @@
 //! The numbers of a key, file by file from the side that they begin at.
-ghost use Rattle.std.specs.Prelude.{◌≡◌, ◌++◌, ◌<◌, ◌≤◌, length, map, take, reverse, IfOk, OnOk, IfSome};
+ghost use Rattle.std.specs.Prelude.{◌≡◌, ◌++◌, ◌<◌, ◌≤◌, ◌==◌, ℕ, List, [], length, map, take, reverse, unwrap_or, IfOk, OnOk, IfSome, IsTrue, false};
 ghost use Rattle.std.specs.Arc.{arc_value};
+ghost use Rattle.std.specs.List.{filter};
 ghost use Rattle.agg_outside.specs.Counts.{HasCause};
+ghost use Rattle.agg_model.specs.Entity.{entity_number};
 ghost use Rattle.inverted_index.specs.EfFile.{numbers_of};
+ghost use Rattle.window_laws.specs.Parts.{is_between};
 ghost use Rattle.window_reads.specs.Folds.{numbers_in_group, numbers_in_groups, all_numbers, turned};
 
 use crate::lists::{take_down, take_up};
@@ -33,6 +36,29 @@ fn list_uncounted<'a, L: Ledger>(
     group.ef().list(key, &mut steps)
 }
 
+// Whether no change of the group has a number in the window: its steps end before it or begin behind it.
+fn is_outside(group: &EntityFiles, numbers: Range) -> bool
+    ensures { (k : List ℕ) → IsTrue result →
+        filter (is_between numbers.from numbers.to) (unwrap_or (numbers_of group.now.ef.lists k) []) ≡ [] }
+{
+    let ef = group.ef();
+    // That the numbers are those of the steps is a clause of this call.
+    let _held = ef.words();
+    let tag = ef.tag();
+    let first = u128::from(tag.from) * u128::from(tag.step);
+    let end = u128::from(tag.to) * u128::from(tag.step);
+    end <= u128::from(numbers.from) || u128::from(numbers.to) <= first
+}
+
+// Whether the group is one of the entity, and can have numbers in the window.
+fn is_within(group: &EntityFiles, entity: Entity, numbers: Range) -> bool
+    ensures own { IsTrue result → IsTrue (entity_number group.now.entity == entity_number entity) }
+    ensures none { (k : List ℕ) → result ≡ false →
+        numbers_in_group entity k numbers.from numbers.to group.now ≡ [] }
+{
+    is_of(group, entity) && !is_outside(group, numbers)
+}
+
 // The numbers of a key in a group that are in the window, ascending, as long as there is room.
 fn add_up(
     group: &EntityFiles,
@@ -46,7 +72,7 @@ fn add_up(
     ensures { OnOk result (out.new
         ≡ take room (out.old ++ numbers_in_group entity key.now numbers.from numbers.to group.now)) }
 {
-    if !is_of(group, entity) {
+    if !is_within(group, entity, numbers) {
         return Ok(());
     }
     match list_uncounted::<Brand>(group, key, Blank::new(1)) {
@@ -68,7 +94,7 @@ fn add_down(
     ensures { OnOk result (out.new
         ≡ take room (out.old ++ reverse (numbers_in_group entity key.now numbers.from numbers.to group.now))) }
 {
-    if !is_of(group, entity) {
+    if !is_within(group, entity, numbers) {
         return Ok(());
     }
     match list_uncounted::<Brand>(group, key, Blank::new(1)) {

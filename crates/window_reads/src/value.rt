@@ -21,8 +21,8 @@ use hot_keeper::ReadError;
 use std::alloc::Global;
 use std::sync::Arc;
 
-// The value that an act leaves.
-fn value_of_act(act: Act) -> Option<Bytes>
+/// The value that an act leaves.
+pub fn value_of_act(act: Act) -> Option<Bytes>
     ensures { result ≡ value_of_act act }
 {
     match act {
