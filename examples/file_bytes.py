@@ -1,7 +1,11 @@
 #!/usr/bin/env python3
 """The bytes of the store's files by definition, written from docs/formats.md; reader.py is their reader.
 
-    examples/file_bytes.py           checks the writer against the texts of the page, and by the reader
+    examples/file_bytes.py                 checks the writer against the texts of the page, and by the reader
+    examples/file_bytes.py TEXT STEP       prints what files a session over the lines of TEXT leaves, with so many
+                                           numbers a step: a hash of their names and bytes, how many, and their bytes
+
+The hash is FNV-1a with 64 bits: of each file its name and then its bytes, the names ascending.
 """
 import functools
 import random
@@ -11,12 +15,14 @@ import sys
 sys.dont_write_bytecode = True
 import reader
 from plain_list import DOMAINS, ENTITIES, PlainList, names_of
+from plain_session import replies_to
 
 TRIES = 65_536
 SALTS = 8
 MOST_OF_A_LEAF = 8
 BUCKET = 100
 FAN = 16
+EMPTY_HASH = 0xCBF29CE484222325
 
 
 def number(value, width=8):
@@ -190,6 +196,24 @@ def files_of(changes, size):
     }
 
 
+def files_left(text, size):
+    """The files that a session over the text leaves."""
+    return files_of(replies_to(text, size)[1].list, size)
+
+
+def hashed(text, before=EMPTY_HASH):
+    """The hash of bytes behind those of a hash."""
+    for byte in text:
+        before = (before ^ byte) * 0x100000001B3 % 2**64
+    return before
+
+
+def hash_of(files, before=EMPTY_HASH):
+    for name in sorted(files):
+        before = hashed(files[name], hashed(name.encode(), before))
+    return before
+
+
 # The texts of docs/formats.md, and files that the reader has to find all in
 
 
@@ -262,7 +286,12 @@ def test_by_reader():
         changes.ef_contents("accounts", size, 2 * size))
 
 
-def main():
+def main(given):
+    if given:
+        with open(given[0], "rb") as it:
+            files = files_left(it.read(), int(given[1]))
+        print(hash_of(files), len(files), sum(map(len, files.values())))
+        return
     test_texts()
     test_first_step()
     test_by_reader()
@@ -270,4 +299,4 @@ def main():
 
 
 if __name__ == "__main__":
-    main()
+    main(sys.argv[1:])

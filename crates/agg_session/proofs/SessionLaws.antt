@@ -370,10 +370,10 @@ committed_outcome s =
     replied (record (cleared_state s) { list = grown s.list (merged s.pending) })
     (says.Committed (length (merged s.pending)) (next_of s.list.next (merged s.pending)))
 
-pub committed : {D K : Type 0} (disk : DiskGhosts D) (limits : Limits) (old new : Session D K) (pending : List Change) (o : Option Accepted) (a : Accepted) (s : State) → Stands disk old s → Goes disk old.store new.store → pending ≡ old.link.pending → new.link ≡ record old.link { pending = []; content = 0; current = None } → o ≡ Some a → ((list : ChangeList) → Holds disk old.store list → Commits disk limits.content list pending o new.store) → Answers disk new (says.Committed a.changes a.next) (commit_on limits s)
+pub committed : {D K : Type 0} (disk : DiskGhosts D) (limits : Limits) (old new : Session D K) (pending : List Change) (o : Option Accepted) (a : Accepted) (s : State) → Stands disk old s → Goes disk old.store new.store → pending ≡ old.link.pending → new.link ≡ record old.link { pending = []; content = 0; current = None } → o ≡ Some a → ((list : ChangeList) → Holds disk old.store list → Commits (Holds disk new.store) limits.content list pending o) → Answers disk new (says.Committed a.changes a.next) (commit_on limits s)
 committed disk limits old new pending None a s stands goes is cleared given commits = cc
 committed disk limits old new pending (Some b) a s stands goes is cleared given commits =
-    let all : Commits disk limits.content s.list pending (Some b) new.store = commits s.list stands.list in
+    let all : Commits (Holds disk new.store) limits.content s.list pending (Some b) = commits s.list stands.list in
     let same : pending ≡ s.pending = is ∙ stands.link.pending in
     let could : may_grow limits.content s.list s.pending ≡ true = sym (all.could ∙ ap (may_grow limits.content s.list) same) in
     let accepted_is : b ≡ a = cc in
@@ -407,10 +407,10 @@ not_in_order disk limits old new pending next refusal s stands is at store clear
     })
 
 -- or for its content
-pub too_large : {D K : Type 0} (disk : DiskGhosts D) (limits : Limits) (old new : Session D K) (pending : List Change) (next : ℕ) (o : Option Accepted) (s : State) → Stands disk old s → Goes disk old.store new.store → pending ≡ old.link.pending → next ≡ old.store.next → new.link ≡ record old.link { pending = []; content = 0; current = None } → None ≡ batch_refusal next pending → o ≡ None → ((list : ChangeList) → Holds disk old.store list → Commits disk limits.content list pending o new.store) → Answers disk new says.ErrLimit (commit_on limits s)
+pub too_large : {D K : Type 0} (disk : DiskGhosts D) (limits : Limits) (old new : Session D K) (pending : List Change) (next : ℕ) (o : Option Accepted) (s : State) → Stands disk old s → Goes disk old.store new.store → pending ≡ old.link.pending → next ≡ old.store.next → new.link ≡ record old.link { pending = []; content = 0; current = None } → None ≡ batch_refusal next pending → o ≡ None → ((list : ChangeList) → Holds disk old.store list → Commits (Holds disk new.store) limits.content list pending o) → Answers disk new says.ErrLimit (commit_on limits s)
 too_large disk limits old new pending next (Some a) s stands goes is at cleared ordered none commits = cc
 too_large disk limits old new pending next None s stands goes is at cleared ordered none commits =
-    let all : Commits disk limits.content s.list pending None new.store = commits s.list stands.list in
+    let all : Commits (Holds disk new.store) limits.content s.list pending None = commits s.list stands.list in
     let same : pending ≡ s.pending = is ∙ stands.link.pending in
     let couldnt : may_grow limits.content s.list s.pending ≡ false = sym (all.could ∙ ap (may_grow limits.content s.list) same) in
     let said : None ≡ batch_refusal s.list.next s.pending =

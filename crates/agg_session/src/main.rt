@@ -3,12 +3,16 @@
 #![tactic(auto)]
 
 #[cfg(test)]
+mod byte_tests;
+#[cfg(test)]
 mod ending_tests;
 mod ends;
 #[cfg(test)]
 mod file_tests;
 mod limits;
 mod link;
+#[cfg(test)]
+mod made_sessions;
 mod reading;
 mod run;
 mod served;

@@ -193,7 +193,7 @@ are_groups-later list batch end groups all complete below = λ e.
     (here.0, (here.1.0, here.1.1 ∙ groups-later list batch e 0 here.0 end all complete here.1.0))
 
 -- the names of groups that end below a step are of files that do
-names-within : (end : ℕ) (groups : List GroupFiles) → All (IsStepBelow end) groups → All (λ n. n.range.to ≤ end) (names_for groups)
+pub names-within : (end : ℕ) (groups : List GroupFiles) → All (IsStepBelow end) groups → All (λ n. n.range.to ≤ end) (names_for groups)
 names-within end [] all = All-nil (λ (n : FileName). n.range.to ≤ end)
 names-within end (g ∷ gs) all =
     let P = λ (n : FileName). n.range.to ≤ end in
@@ -238,7 +238,7 @@ grows_after disk store list hot batch next content holds fits none rows is_next 
 
 pub commits_after : {D K : Type 0} (disk : DiskGhosts D) (most : ℕ) (store : Store D K) (hot : Versions) (pending : List Change) (next content : ℕ) → IsBatch 0 (4096 * store.size) pending → begins_from store.next pending ≡ true → store.content + content_of (merged pending) ≤ most
     → Ingested store.hot hot (merged pending) → next ≡ next_of store.next (merged pending) → content ≡ store.content + content_of (merged pending)
-    → (list : ChangeList) → Holds disk store list → Commits disk most list pending (Some (record { changes = length (merged pending); next = next })) (record store { hot = hot; next = next; content = content })
+    → (list : ChangeList) → Holds disk store list → Commits (Holds disk (record store { hot = hot; next = next; content = content })) most list pending (Some (record { changes = length (merged pending); next = next }))
 commits_after disk most store hot pending next content batch begins small rows is_next counted list holds =
     let within : content_of list.changes + content_of (merged pending) ≤ most = rw (← holds.content) small in
     let begins_list : begins_from list.next pending ≡ true = rw (← holds.next) begins in
@@ -249,12 +249,12 @@ commits_after disk most store hot pending next content batch begins small rows i
       same = tt;
     }
 
-pub refuses_first : {D K : Type 0} (disk : DiskGhosts D) (most : ℕ) (store : Store D K) (pending : List Change) → begins_from store.next pending ≡ false → (list : ChangeList) → Holds disk store list → Commits disk most list pending None store
+pub refuses_first : {D K : Type 0} (disk : DiskGhosts D) (most : ℕ) (store : Store D K) (pending : List Change) → begins_from store.next pending ≡ false → (list : ChangeList) → Holds disk store list → Commits (Holds disk store) most list pending None
 refuses_first disk most store pending begins list holds =
     let begins_list : begins_from list.next pending ≡ false = rw (← holds.next) begins in
     record { could = sym (rw begins_list); told = tt; grows = tt; same = holds }
 
-pub refuses_content : {D K : Type 0} (disk : DiskGhosts D) (most : ℕ) (store : Store D K) (pending : List Change) → begins_from store.next pending ≡ true → most < store.content + content_of (merged pending) → (list : ChangeList) → Holds disk store list → Commits disk most list pending None store
+pub refuses_content : {D K : Type 0} (disk : DiskGhosts D) (most : ℕ) (store : Store D K) (pending : List Change) → begins_from store.next pending ≡ true → most < store.content + content_of (merged pending) → (list : ChangeList) → Holds disk store list → Commits (Holds disk store) most list pending None
 refuses_content disk most store pending begins over list holds =
     let beyond : most < content_of list.changes + content_of (merged pending) = rw (← holds.content) over in
     let begins_list : begins_from list.next pending ≡ true = rw (← holds.next) begins in

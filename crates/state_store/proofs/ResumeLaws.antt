@@ -1,9 +1,19 @@
 -- Laws of a store whose next step may be on the disk in part.
-use Rattle.std.proofs.Common.{◌≡◌, ℕ, ◌+◌, ◌*◌, ◌/◌, ◌%◌, ◌<◌, ◌≤◌, ◌++◌, List, All, Option, Some, None, IfSome, IsSomeAnd, refl, ap, subst, sym, ◌∙◌, arith}
+use Rattle.std.proofs.Common.{◌≡◌, ℕ, ◌+◌, ◌*◌, ◌/◌, ◌%◌, ◌<◌, ◌≤◌, ◌++◌, true, List, get_or, length, All, Contains, Option, Some, None, IfSome, IsSomeAnd, ap, subst, sym, ◌∙◌, arith}
+use Rattle.std.specs.FinMap.{get}
 use Rattle.std.specs.Option.{ForSome}
 use Rattle.std.proofs.lemmas.Nat.{div-add-mod', mod_below, mul-le}
 use Rattle.agg_outside.specs.declared.disk.Disk.{Ghosts as DiskGhosts}
-use Rattle.agg_model.specs.ChangeList.{ChangeList}
+use Rattle.agg_outside.specs.Files.{Files}
+use Rattle.agg_model.specs.declared.change.Change.{Change}
+use Rattle.agg_model.specs.Batch.{IsBatch, content_of}
+use Rattle.agg_model.specs.ChangeList.{ChangeList, next_of, grown, begins_from}
+use Rattle.agg_model.specs.Merged.{merged}
+use Rattle.agg_model.proofs.GrownLaws.{AscendFrom-All, next_of-above}
+use Rattle.merge_ranges.specs.declared.name.FileName.{FileName}
+use Rattle.merge_ranges.specs.Name.{spelled}
+use Rattle.agg_core.specs.Files.{IsFileOf, MayStand, temporary_of}
+use Rattle.agg_core.proofs.Stays.{file_bytes-later, file_bytes-stays}
 use Rattle.collate_step.specs.Groups.{GroupFiles, AreGroupsBelow}
 use Rattle.row_epochs.specs.Versions.{Versions, AreVersions}
 use Rattle.visible_files.specs.Sets.{SetOf, SetsOf}
@@ -11,12 +21,13 @@ use Rattle.agg_core.specs.Files.{HasExactly}
 use Rattle.agg_core.specs.Rows.{HasRows}
 use Rattle.group_files.specs.NewFiles.{names_for}
 use Rattle.state_store.specs.declared.store.Store.{Store}
-use Rattle.state_store.specs.Store.{IsStepBelow, SeesAll, ArePlain, IsStore, Holds, Resumes, HasPart, HasOneTemporary, IsSettling, untold, step_names, steps_held}
+use Rattle.state_store.specs.Store.{IsStepBelow, SeesAll, ArePlain, IsStore, Holds, Resumes, HasPart, HasOneTemporary, IsSettling, Commits, untold, step_names, steps_held}
 use Rattle.state_store.specs.Settling.{IsNextStep}
 use Rattle.state_store.proofs.PlainLaws.{has_rows}
 use Rattle.state_store.proofs.StepFiles.{none_some, may_all}
 use Rattle.state_store.proofs.PartFiles.{part_of, exactly_of, one_of_none, never_early}
 use Rattle.state_store.proofs.GroupsAfter.{after_exactly}
+use Rattle.state_store.proofs.AcceptLaws.{Ingested, next_batch, names-within, commits_after}
 use Rattle.state_store.proofs.ViewLaws.{holds_with}
 use Rattle.state_store.proofs.SettlingLaws.{few_steps, hot_same, HasTaken, holds_taken}
 
@@ -126,3 +137,57 @@ pub resumed_taken : {D K : Type 0} (disk : DiskGhosts D) (old : Store D K) → s
 resumed_taken disk old due sound new same added taken list next stand resumes =
     holds_of disk new list (holds_taken (untold disk) old due sound new same added taken list next (λ f told. absurd (none_some told)) resumes.holds)
     (λ f told. after_exactly list old.sets.current.end old.sets.current.groups added new.sets.current.groups next.is taken.groups resumes.holds.single f (stand f told))
+
+-- ---- a batch that is added while a step is on the disk in part
+
+module _ (list : ChangeList) (batch : List Change) (fits : IsBatch list.next (4096 * list.size) batch) where
+  late : All (λ d. list.next ≤ d.tx) batch
+  late = AscendFrom-All list.next batch fits.ascend
+
+  may-later : (name : FileName) → MayStand list name → MayStand (grown list batch) name
+  may-later name may =
+      let up : list.next ≤ next_of list.next batch = next_of-above list.next list.next batch (omega arith) fits.ascend in
+      record { built = may.built; complete = at_most may.complete up }
+    where
+      at_most : {a b c : ℕ} → a ≤ b → b ≤ c → a ≤ c
+      at_most h k = omega (arith, h, k)
+
+  file-later : (name : FileName) (o : Option (List ℕ)) → IfSome o (IsFileOf list name) → IfSome o (IsFileOf (grown list batch) name)
+  file-later name None h = tt
+  file-later name (Some bytes) h = (h.0 ∙ sym (file_bytes-stays list batch name late h.1), may-later name h.1)
+
+  left-later : (next : List FileName) (name : FileName) (o : Option (List ℕ)) → IfSome o (λ _. Contains next name × MayStand list name) → IfSome o (λ _. Contains next name × MayStand (grown list batch) name)
+  left-later next name None h = tt
+  left-later next name (Some bytes) h = (h.0, may-later name h.1)
+
+  pub part-later : (end : ℕ) (names next : List FileName) (f : Files) → end * list.size ≤ list.next → All (λ n. n.range.to ≤ end) names → HasPart list names next f → HasPart (grown list batch) names next f
+  part-later end names next f complete within has = record {
+    held = λ k d below. has.held k d below ∙ ap Some (sym (file_bytes-later list batch (get_or names k d) late (covered (get_or names k d).range.to (within k d below))));
+    named = λ name is. file-later name (get f (spelled name)) (has.named name is);
+    only = has.only;
+    temporary = λ name is. left-later next name (get f (temporary_of name)) (has.temporary name is);
+  }
+    where
+      covered : (to : ℕ) → to ≤ end → to * list.size ≤ list.next
+      covered to below =
+          let up : to * list.size ≤ end * list.size = mul-le to list.size end list.size below (omega arith) in
+          omega (arith, up, complete)
+
+pub commits_resumed : {D K : Type 0} (disk : DiskGhosts D) (most : ℕ) (store : Store D K) (hot : Versions) (pending : List Change) (next content : ℕ) → IsBatch 0 (4096 * store.size) pending → begins_from store.next pending ≡ true → store.content + content_of (merged pending) ≤ most
+    → Ingested store.hot hot (merged pending) → next ≡ next_of store.next (merged pending) → content ≡ store.content + content_of (merged pending)
+    → (list : ChangeList) → Resumes disk store list → Commits (Resumes disk (record store { hot = hot; next = next; content = content })) most list pending (Some (record { changes = length (merged pending); next = next }))
+commits_resumed disk most store hot pending next content batch begins small rows is_next counted list resumes =
+    let all = commits_after (untold disk) most store hot pending next content batch begins small rows is_next counted list resumes.holds in
+    let end = store.sets.current.end in
+    let groups = store.sets.current.groups in
+    let fits : IsBatch list.next (4096 * list.size) (merged pending) =
+    rw (← resumes.holds.next, ← resumes.holds.size) (next_batch store.next (4096 * store.size) pending batch begins) in
+    record {
+      could = all.could;
+      told = all.told;
+      grows = record {
+        holds = all.grows;
+        part = λ f told. part-later list (merged pending) fits end (names_for groups) (step_names end) f resumes.holds.complete (names-within end groups resumes.holds.single) (resumes.part f told);
+      };
+      same = tt;
+    }

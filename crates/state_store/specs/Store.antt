@@ -184,11 +184,11 @@ pub record HasCauses {T D K : Type 0} (disk : DiskGhosts D) (old new : Store D K
   pub of_disk : IsErrOf result stops.Disk → Rose (disk.faults old.disk) (disk.faults new.disk)
   pub of_keeper : IsErrOf result stops.Keeper → Rose old.hot.faults new.hot.faults
 
--- what a commit answers, and the list that it leaves: the grown one, or the same where it is refused
-pub record Commits {D K : Type 0} (disk : DiskGhosts D) (most : ℕ) (list : ChangeList)
-    (pending : List Change) (answer : Option Accepted) (store : Store D K) : Type 0 where
+-- what a commit answers, and the list of which a fact holds then: the grown one, or the same where it is refused
+pub record Commits (Left : ChangeList → Type 0) (most : ℕ) (list : ChangeList) (pending : List Change)
+    (answer : Option Accepted) : Type 0 where
   pub could : is_some answer ≡ may_grow most list pending
   pub told : IfSome answer (λ a.
       a ≡ record { changes = length (merged pending); next = next_of list.next (merged pending) })
-  pub grows : IfSome answer (λ a. Holds disk store (grown list (merged pending)))
-  pub same : IfNone answer (Holds disk store list)
+  pub grows : IfSome answer (λ a. Left (grown list (merged pending)))
+  pub same : IfNone answer (Left list)

@@ -2,7 +2,7 @@
 ghost use Rattle.std.specs.Prelude.{◌≡◌, ◌*◌, ◌<◌, ◌≤◌, ◌^◌, All, ◌+◌, None, IfOk, IfErr, OnErr, IsErrOf};
 ghost use Rattle.agg_model.specs.Batch.{content_of, IsBatch};
 ghost use Rattle.agg_model.specs.ChangeList.{ChangeList, next_of, begins_from};
-ghost use Rattle.state_store.specs.Store.{IsStore, Holds, Commits, Goes, HasCauses};
+ghost use Rattle.state_store.specs.Store.{IsStore, Holds, Resumes, Commits, Goes, HasCauses};
 
 use crate::stop::Stop;
 use crate::store::Store;
@@ -37,7 +37,10 @@ impl<D: Disk, K: Keeper> Store<D, K> {
         ensures others { self.new
             ≡ record self.old { hot = self.new.hot; next = self.new.next; content = self.new.content } }
         ensures commits { (list : ChangeList) → Holds D.Disk self.old list →
-            IfOk result (λ answer. Commits D.Disk most list pending answer self.new) }
+            IfOk result (λ answer. Commits (Holds D.Disk self.new) most list pending answer) }
+        // What faults have left of a step is then of the grown list.
+        ensures resumes { (list : ChangeList) → Resumes D.Disk self.old list →
+            IfOk result (λ answer. Commits (Resumes D.Disk self.new) most list pending answer) }
         ensures only { IfErr result (λ stop. stop ≡ Stop.Disk → ⊥) }
         // At the last epoch nothing is added.
         ensures rises { self.old.hot.epoch ≡ 2 ^ 62 → IfOk result (λ answer. answer ≡ None) }
@@ -45,6 +48,8 @@ impl<D: Disk, K: Keeper> Store<D, K> {
         ensures worn { IsErrOf result Stop.Worn → self.old.hot.epoch ≡ 2 ^ 62 }
         ensures epoch { self.new.hot.epoch ≤ self.old.hot.epoch + 1 }
         ensures holds { (list : ChangeList) → Holds D.Disk self.old list → OnErr result (Holds D.Disk self.new list) }
+        ensures still_resumes { (list : ChangeList) → Resumes D.Disk self.old list →
+            OnErr result (Resumes D.Disk self.new list) }
         ensures err { OnErr result (self.new
             ≡ record self.old { hot = record self.old.hot { faults = self.new.hot.faults } }) }
         ensures goes { Goes D.Disk self.old self.new }

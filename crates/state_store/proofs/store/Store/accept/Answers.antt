@@ -5,6 +5,7 @@ use Rattle.agg_model.specs.ChangeList.{next_of, begins_from}
 use Rattle.agg_model.specs.Merged.{merged}
 use Rattle.agg_model.proofs.MergedLaws.{merged-HasNoRepeats}
 use Rattle.state_store.proofs.AcceptLaws.{can_add, next_batch, small_content, early_numbers, sound_after, commits_after, ingested, sees_after}
+use Rattle.state_store.proofs.ResumeLaws.{commits_resumed}
 use Rattle.agg_core.proofs.Kept.{outside-refl}
 use Rattle.state_store.proofs.store.Store.accept.Goals as goal
 
@@ -52,6 +53,17 @@ returns-clause-commits g c =
     let more : c.content-more.result ≡ content_of (merged c.args.pending) = c.content-more.ensures ∙ ap content_of c.in_ok-batch.ensures in
     rw (c.len-changes.ensures, c.in_ok-batch.ensures)
     (commits_after g.D.Disk c.args.most c.args.self.now c.ingest.new.self c.args.pending c.next_of-next.result _ c.requires.batch begins
+    (omega (arith, c.if-self-more.false, more))
+    (ingested c.args.self.now.hot c.ingest.new.self c.args.pending c.in_ok-batch.batch c.in_ok-batch.ensures c.in_ok-ingest.ensures.epoch c.in_ok-ingest.ensures.changes c.in_ok-ingest.ensures.silent c.in_ok-ingest.ensures.ok)
+    (c.next_of-next.ensures ∙ ap (next_of c.args.self.now.next) c.in_ok-batch.ensures)
+    (ap (λ n. c.args.self.now.content + n) more))
+
+pub returns-clause-resumes : goal.returns-clause-resumes
+returns-clause-resumes g c =
+    let begins : begins_from c.args.self.now.next c.args.pending ≡ true = sym c.begins_from.ensures ∙ c.if-not-begins_from.false in
+    let more : c.content-more.result ≡ content_of (merged c.args.pending) = c.content-more.ensures ∙ ap content_of c.in_ok-batch.ensures in
+    rw (c.len-changes.ensures, c.in_ok-batch.ensures)
+    (commits_resumed g.D.Disk c.args.most c.args.self.now c.ingest.new.self c.args.pending c.next_of-next.result _ c.requires.batch begins
     (omega (arith, c.if-self-more.false, more))
     (ingested c.args.self.now.hot c.ingest.new.self c.args.pending c.in_ok-batch.batch c.in_ok-batch.ensures c.in_ok-ingest.ensures.epoch c.in_ok-ingest.ensures.changes c.in_ok-ingest.ensures.silent c.in_ok-ingest.ensures.ok)
     (c.next_of-next.ensures ∙ ap (next_of c.args.self.now.next) c.in_ok-batch.ensures)
