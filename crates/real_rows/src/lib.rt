@@ -2,8 +2,10 @@
 #![tactic(auto)]
 
 mod commands;
+mod shared;
 mod sql_table;
 #[cfg(test)]
 mod tests;
 
+pub use shared::sends_table;
 pub use sql_table::SqlTable;
