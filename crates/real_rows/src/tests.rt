@@ -3,17 +3,19 @@ use agg_outside::{Bytes, Keeper, KeeperError, Memory, Row, RowId, RowWrite};
 use real_devices::{SqlKeeper, Table};
 use std::alloc::Global;
 use std::fs;
+use std::os::unix::fs::symlink;
 use std::process::Abort;
 use std::test::Fail;
+use std::thread::{Threads, join};
 
 // Ids in no order: of two entities, with keys of which one may begin another, and numbers of either end.
-fn scattered(alloc: Global, n: u8) -> Result<RowId, Memory> {
+fn scattered(alloc: Global, n: u32) -> Result<RowId, Memory> {
     let mut key = Vec::new(alloc);
     for at in 0..n % 4 {
-        key.push((n >> at) & 1)?;
+        key.push(if (n >> at) & 1 == 1 { 1 } else { 0 })?;
     }
     Ok(RowId {
-        entity: n % 2,
+        entity: if n % 2 == 1 { 1 } else { 0 },
         key: Bytes::from_vec(key),
         tx: if n % 3 == 0 {
             u64::MAX
@@ -24,26 +26,34 @@ fn scattered(alloc: Global, n: u8) -> Result<RowId, Memory> {
     })
 }
 
-fn row_of(alloc: Global, n: u8) -> Result<Row, Memory> {
+fn row_of(alloc: Global, n: u32) -> Result<Row, Memory> {
     Ok(Row {
         id: scattered(alloc, n)?,
         killed: 0,
         act: 0,
-        value: Bytes::of(alloc, &[n])?,
+        value: Bytes::of(alloc, &n.to_be_bytes())?,
     })
 }
 
-fn writes_of(alloc: Global, count: u8) -> Result<Vec<RowWrite>, Memory> {
+// So many rows, in an order that jumps about, and the floor.
+fn writes_of(alloc: Global, count: u32) -> Result<Vec<RowWrite>, Memory> {
     let mut writes = Vec::new(alloc);
-    for n in 0..count {
+    let mut n = 0u32;
+    for _write in 0..count {
+        n = next_of(n, count);
         writes.push(RowWrite::Insert(row_of(alloc, n)?))?;
     }
     writes.push(RowWrite::Floor(7))?;
     Ok(writes)
 }
 
+// Each number below the count comes once in so many steps, where the count has no divisor in common with 7,919.
+fn next_of(n: u32, count: u32) -> u32 {
+    n.wrapping_add(7919).checked_rem(count).unwrap_or(0)
+}
+
 // The last of them can't be made where there are so many rows.
-fn writes_that_fail(alloc: Global, count: u8) -> Result<Vec<RowWrite>, Memory> {
+fn writes_that_fail(alloc: Global, count: u32) -> Result<Vec<RowWrite>, Memory> {
     let mut writes = Vec::new(alloc);
     writes.push(RowWrite::Floor(9))?;
     writes.push(RowWrite::Remove(scattered(alloc, 0)?))?;
@@ -52,7 +62,7 @@ fn writes_that_fail(alloc: Global, count: u8) -> Result<Vec<RowWrite>, Memory> {
     Ok(writes)
 }
 
-fn sorted_ids(alloc: Global, count: u8) -> Result<Vec<RowId>, Memory> {
+fn sorted_ids(alloc: Global, count: u32) -> Result<Vec<RowId>, Memory> {
     let mut ids = Vec::new(alloc);
     for n in 0..count {
         ids.push(scattered(alloc, n)?)?;
@@ -178,5 +188,94 @@ fn a_file_of_text_is_refused_and_left(rt: HostRuntime) -> Result<(), Fail> {
     let text = fs::read(&rt, TEXT)?;
     assert!(rt; text.as_slice() == b"Some text, and no table.".as_slice());
     fs::remove_dir_all(&rt, "real_rows_text")?;
+    Ok(())
+}
+
+// The floor that a keeper answers to another thread, and the keeper, which comes back.
+fn floor_of_another<R: Threads + Sync, T: Table + Send>(
+    rt: &R,
+    table: T,
+) -> (Result<u64, KeeperError>, SqlKeeper<T>) {
+    let mut keeper = SqlKeeper::new(table);
+    let told = move || {
+        let floor = keeper.floor();
+        (floor, keeper)
+    };
+    join(rt, told, || ()).0
+}
+
+const SENT: &str = "real_rows_sent/rows.db";
+
+#[test]
+fn a_keeper_goes_to_a_thread_and_back(rt: HostRuntime) -> Result<(), Fail> {
+    let alloc = rt.alloc();
+    let _ = fs::remove_dir_all(&rt, "real_rows_sent");
+    fs::create_dir(&rt, "real_rows_sent")?;
+    let (first, mut keeper) = floor_of_another(&rt, SqlTable::at(&rt, SENT));
+    assert_eq!(rt; first, Ok(0));
+    assert!(rt; keeper.apply(alloc, &[RowWrite::Floor(3)]).is_ok());
+    assert_eq!(rt; keeper.floor(), Ok(3));
+    drop(keeper);
+    fs::remove_dir_all(&rt, "real_rows_sent")?;
+    Ok(())
+}
+
+// What a second table answers while the first one is held, and what the first one answers afterwards.
+fn floors_of_both<T: Table, U: Table>(
+    first: T,
+    second: U,
+) -> (Result<u64, KeeperError>, Result<u64, KeeperError>) {
+    let mut first = SqlKeeper::new(first);
+    let _held = first.floor();
+    let other = floor_in(second);
+    (other, first.floor())
+}
+
+const LOCKED: &str = "real_rows_locked/rows.db";
+
+#[test]
+fn a_file_that_is_held_is_refused_to_a_second_table(rt: HostRuntime) -> Result<(), Fail> {
+    let _ = fs::remove_dir_all(&rt, "real_rows_locked");
+    fs::create_dir(&rt, "real_rows_locked")?;
+    let (second, first) = floors_of_both(SqlTable::at(&rt, LOCKED), SqlTable::at(&rt, LOCKED));
+    assert_eq!(rt; second, Err(KeeperError::Failed));
+    assert_eq!(rt; first, Ok(0));
+    assert_eq!(rt; floor_in(SqlTable::at(&rt, LOCKED)), Ok(0));
+    fs::remove_dir_all(&rt, "real_rows_locked")?;
+    Ok(())
+}
+
+#[test]
+fn a_file_that_cant_be_made_is_refused(rt: HostRuntime) -> Result<(), Fail> {
+    let _ = fs::remove_dir_all(&rt, "real_rows_none");
+    assert_eq!(rt;
+        floor_in(SqlTable::at(&rt, "real_rows_none/rows.db")),
+        Err(KeeperError::Failed)
+    );
+    assert!(rt; fs::metadata(&rt, "real_rows_none").is_err());
+    fs::create_dir(&rt, "real_rows_none")?;
+    assert_eq!(rt;
+        floor_in(SqlTable::at(&rt, "real_rows_none")),
+        Err(KeeperError::Failed)
+    );
+    fs::remove_dir(&rt, "real_rows_none")?;
+    Ok(())
+}
+
+const FULL: &str = "real_rows_full/rows.db";
+
+#[test]
+fn a_device_that_is_full_is_refused(rt: HostRuntime) -> Result<(), Fail> {
+    let alloc = rt.alloc();
+    let _ = fs::remove_dir_all(&rt, "real_rows_full");
+    fs::create_dir(&rt, "real_rows_full")?;
+    symlink(&rt, "/dev/full", FULL)?;
+    let writes = writes_of(alloc, 1)?;
+    assert_eq!(rt;
+        apply(alloc, SqlTable::at(&rt, FULL), writes.as_slice()),
+        Err(KeeperError::Failed)
+    );
+    assert_eq!(rt; floor_in(SqlTable::at(&rt, FULL)), Err(KeeperError::Failed));
+    fs::remove_dir_all(&rt, "real_rows_full")?;
     Ok(())
 }
