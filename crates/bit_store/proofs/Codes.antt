@@ -1,12 +1,13 @@
 -- Rice codes written and read.
 use Rattle.std.proofs.Common.{◌≡◌, ℕ, zero, suc, ◌+◌, ◌-◌, ◌*◌, ◌/◌, ◌%◌, ◌^◌, ◌<◌, ◌≤◌, Bool, true, false, List, [], ◌∷◌, ◌++◌, length, take, drop, replicate, refl, sym, ap, ◌∙◌, arith, append_assoc}
 use Rattle.std.proofs.Math.Nat.{mul_comm}
+use Rattle.std.proofs.Math.Seq.{take-add}
 use Rattle.std.proofs.lemmas.Nat.{pow_pos, pow-add, shr_split, div-mul-add, mod-mul-add, mul-add-lt, le-div}
 use Rattle.std.proofs.lemmas.Nat.Bits.{ones_shr}
 use Rattle.std.proofs.lemmas.List.{length-append, length-take, length-drop, length-replicate, take-append-drop, take_at, drop_at, drop-drop, drop_more}
 use Rattle.bit_store.specs.Bits.{number_of, low_bits, ones_of, IsOneAt}
 use Rattle.bit_store.specs.Rice.{rice_code, StandsAt}
-use Rattle.bit_store.proofs.Numbers.{number_of-lt, number_of-low_bits, length-low_bits, same_bits, ones_of-append, ones_of-split}
+use Rattle.bit_store.proofs.Numbers.{number_of-lt, number_of-low_bits, low_bits-number_of, length-low_bits, same_bits, ones_of-append, ones_of-split}
 use Rattle.bit_store.proofs.Views.{ones_more}
 
 pub length-rice_code : (r v : ℕ) → length (rice_code r v) ≡ v / 2 ^ r + 1 + r
@@ -124,3 +125,11 @@ too_many z r v lt many e =
 -- a code among others stands at the number of bits before it
 pub stands_between : (front code rest : List Bool) → StandsAt (front ++ (code ++ rest)) (length front) code
 stands_between front code rest = stands_first (front ++ (code ++ rest)) (length front) code rest (drop_at front (code ++ rest) (length front) refl)
+
+-- bits of others that are put down as a number are those bits
+pub piece_put : (bits others : List Bool) (at w f : ℕ) → at + w ≤ length others → f ≡ number_of (take w (drop at others)) → (bits ++ take at others) ++ low_bits w f ≡ bits ++ take (at + w) others
+piece_put bits others at w f le is =
+    let piece = take w (drop at others) in
+    let long : length piece ≡ w = omega (arith, length-take w (drop at others), length-drop at others) in
+    let same : low_bits w f ≡ piece = ap (low_bits w) is ∙ ap (λ (n : ℕ). low_bits n (number_of piece)) (sym long) ∙ low_bits-number_of piece in
+    append_assoc bits (take at others) (low_bits w f) ∙ ap (λ (l : List Bool). bits ++ (take at others ++ l)) same ∙ ap (λ (l : List Bool). bits ++ l) (sym (take-add at w others))

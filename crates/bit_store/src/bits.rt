@@ -3,6 +3,7 @@ ghost use Rattle.std.specs.Vec.{vec_capacity};
 ghost use Rattle.bit_store.specs.Bits.{low_bits, text_of, IsHeld, bits_of, bytes_for};
 ghost use Rattle.bit_store.specs.Counts.{number_in};
 
+use crate::view::BitView;
 use agg_outside::{Bytes, Memory, slice_fits};
 use std::alloc::Global;
 use std::marker::Model;
@@ -161,6 +162,13 @@ impl Bits {
         ensures { result ≡ length self.now }
     {
         self.len
+    }
+
+    /// The bits, to be read.
+    pub fn view(&self) -> BitView<'_>
+        ensures { result ≡ self.now }
+    {
+        BitView::of(self.bytes.as_slice(), self.len)
     }
 
     /// The bits as a text; unused bits of its last byte are 0. Takes no memory.

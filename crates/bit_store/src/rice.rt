@@ -35,6 +35,22 @@ fn put_code(bits: &mut Bits, value: u64, r: u32) -> Result<(), Memory>
     bits.push(value, r)
 }
 
+// Puts all bits of a view down, or a part of them where memory is short.
+fn put_view(bits: &mut Bits, others: &BitView<'_>) -> Result<(), Memory>
+    ensures ok { OnOk result (bits.new ≡ bits.old ++ others.now) }
+    ensures keeps { take (length bits.old) bits.new ≡ bits.old }
+    ensures grows { length bits.old ≤ length bits.new }
+{
+    let len = others.len();
+    let mut at = 0u64;
+    while at < len {
+        let width = (len - at).min(64);
+        bits.push(others.field(at, width as u32), width as u32)?;
+        at += width;
+    }
+    Ok(())
+}
+
 impl RiceWriter {
     /// No codes yet; takes no memory.
     pub fn new(alloc: Global) -> RiceWriter
@@ -54,6 +70,21 @@ impl RiceWriter {
     {
         let before = self.bits.len();
         match put_code(&mut self.bits, value, r) {
+            Ok(()) => Ok(()),
+            Err(refused) => {
+                self.bits.truncate(before);
+                Err(refused)
+            }
+        }
+    }
+
+    /// Appends the codes of another writer; after want of memory the bits are as before.
+    pub fn append(&mut self, others: &RiceWriter) -> Result<(), Memory>
+        ensures ok { OnOk result (self.new ≡ self.old ++ others.now) }
+        ensures err { OnErr result (self.new ≡ self.old) }
+    {
+        let before = self.bits.len();
+        match put_view(&mut self.bits, &others.bits.view()) {
             Ok(()) => Ok(()),
             Err(refused) => {
                 self.bits.truncate(before);

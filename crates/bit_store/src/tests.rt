@@ -112,6 +112,20 @@ fn codes_are_written(rt: HostRuntime) -> Result<(), Fail> {
     Ok(())
 }
 
+// The same bits in two parts.
+#[test]
+fn codes_are_put_behind_others(rt: HostRuntime) -> Result<(), Fail> {
+    let mut writer = RiceWriter::new(rt.alloc());
+    writer.push(5, 2).ok().ok_or("memory")?;
+    let mut others = RiceWriter::new(rt.alloc());
+    others.push(0, 0).ok().ok_or("memory")?;
+    others.push(9, 0).ok().ok_or("memory")?;
+    writer.append(&others).ok().ok_or("memory")?;
+    assert_eq!(rt; writer.len(), 15);
+    assert_eq!(rt; writer.finish().as_slice(), [0x16, 0x40].as_slice());
+    Ok(())
+}
+
 #[test]
 fn codes_are_read(rt: HostRuntime) {
     let mut reader = RiceReader::of(BitView::of(&[0x16, 0x40], 15), 0);
