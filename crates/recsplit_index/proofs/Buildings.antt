@@ -4,9 +4,8 @@ use Rattle.std.specs.Option.{option_map, option_and_then}
 use Rattle.std.proofs.lemmas.List.{append-nil, length-append, length-map, map-append}
 use Rattle.std.proofs.lemmas.List.Concat.{flat_map-append}
 use Rattle.recsplit_index.specs.declared.keys.HashedKey.{HashedKey}
-use Rattle.recsplit_index.specs.declared.buckets.Built.{Built}
 use Rattle.recsplit_index.specs.Nodes.{Node, node, offsets_of, PutsNode}
-use Rattle.recsplit_index.specs.Index.{bucket_count, bucket_keys, bucket_node, nodes_from, nodes_of, starts_from, slots_of, bits_of_nodes, Holds, HoldsAll}
+use Rattle.recsplit_index.specs.Index.{bucket_count, bucket_keys, bucket_node, nodes_from, nodes_of, starts_from, slots_of, bits_of_nodes}
 
 -- the nodes so far, and what is left of them
 pub record IsBuilding (tries buckets : ℕ) (keys : List HashedKey) (i : ℕ) (starts : List ℕ) (codes : List Bool) (offsets : List ℕ) : Type 0 where
@@ -45,7 +44,7 @@ placed_none : (o : Option Node) (bits : List Bool) (offsets : List ℕ) (new_bit
 placed_none None bits offsets new_bits new_offsets p = refl
 placed_none (Some n) bits offsets new_bits new_offsets p = absurd cc
 
-offsets-append : (xs ys : List HashedKey) → offsets_of (xs ++ ys) ≡ offsets_of xs ++ offsets_of ys
+pub offsets-append : (xs ys : List HashedKey) → offsets_of (xs ++ ys) ≡ offsets_of xs ++ offsets_of ys
 offsets-append xs ys = map-append (λ key. key.offset) xs ys
 
 -- what is put of a group is its bucket's node
@@ -108,22 +107,3 @@ all_nodes tries b keys i starts starts2 codes offsets b-is ge building start =
       offsets_are = building.offsets_are ∙ ap (λ (l : List Node). offsets_of (slots_of l)) (sym (append-nil building.done));
       codes_are = building.codes_are ∙ ap (λ (l : List Node). bits_of_nodes l) (sym (append-nil building.done));
     }
-
--- ---- as they are held
-
-holds_none : (o : Option (List Node)) → o ≡ None → HoldsAll None o
-holds_none None is = tt
-holds_none (Some ns) is = absurd cc
-
-holds_some : (built : Built) (nodes : List Node) (o : Option (List Node)) → o ≡ Some nodes → Holds built nodes → HoldsAll (Some built) o
-holds_some built nodes o is h = subst (λ (x : Option (List Node)). HoldsAll (Some built) x) (sym is) h
-
-pub building_fails : (tries b : ℕ) (keys : List HashedKey) (i : ℕ) (starts : List ℕ) (codes codes2 : List Bool) (offsets offsets2 : List ℕ) → b ≡ bucket_count (length keys) → i < b → IsBuilding tries b keys i starts codes offsets
-    → PutsNode false (bucket_node tries b keys i) codes offsets codes2 offsets2 → HoldsAll None (nodes_of tries keys)
-building_fails tries b keys i starts codes codes2 offsets offsets2 b-is lt building puts = holds_none (nodes_of tries keys) (no_nodes tries b keys i starts codes codes2 offsets offsets2 b-is lt building puts)
-
-pub building_all : (tries b : ℕ) (keys : List HashedKey) (i : ℕ) (starts : List ℕ) (built : Built) → b ≡ bucket_count (length keys) → b ≤ i → IsBuilding tries b keys i starts built.parts.codes built.parts.offsets.items
-    → built.starts.items ≡ starts ++ (length built.parts.offsets.items ∷ length built.parts.codes ∷ []) → HoldsAll (Some built) (nodes_of tries keys)
-building_all tries b keys i starts built b-is ge building start =
-    let all = all_nodes tries b keys i starts built.starts.items built.parts.codes built.parts.offsets.items b-is ge building start in
-    holds_some built all.nodes (nodes_of tries keys) all.nodes_are (record { starts_are = all.starts_are; offsets_are = all.offsets_are; codes_are = all.codes_are })

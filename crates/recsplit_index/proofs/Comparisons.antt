@@ -1,5 +1,5 @@
 -- Bytes that were compared with an accessor.
-use Rattle.std.proofs.Common.{◌≡◌, ℕ, ◌+◌, ◌≤◌, List, [], ◌∷◌, ◌++◌, length, Option, Some, None, Result, refl, sym, ap, subst, ◌∙◌}
+use Rattle.std.proofs.Common.{◌≡◌, ℕ, ◌≤◌, List, ◌++◌, length, Option, Some, None, Result, refl, sym, ap, subst, ◌∙◌}
 use Rattle.bit_store.specs.Bits.{text_of}
 use Rattle.file_numbers.specs.Lists.{number_bytes}
 use Rattle.recsplit_index.specs.declared.keys.HashedKey.{HashedKey}

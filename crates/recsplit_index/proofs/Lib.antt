@@ -17,3 +17,4 @@ pub mod Followings
 pub mod Layings
 pub mod Alongside
 pub mod Comparisons
+mod PartLists

@@ -6,3 +6,4 @@ pub mod Index
 pub mod Walks
 pub mod Layout
 pub mod InPlace
+pub mod Parts

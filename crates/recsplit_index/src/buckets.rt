@@ -4,11 +4,12 @@ ghost use Rattle.recsplit_index.specs.Keys.{hashed_keys};
 ghost use Rattle.recsplit_index.specs.Index.{bucket_count, nodes_of, HoldsAll};
 
 use crate::keys::groups_of;
-use crate::nodes::{Parts, put_node};
+use crate::nodes::Parts;
+use crate::parts::{all_built, parts_of, parts_side_by_side};
 use agg_outside::{Memory, Steps};
-use bit_store::RiceWriter;
 use std::alloc::Global;
 use std::sync::ledger::Ledger;
+use std::thread::Threads;
 use word_file::WordFile;
 
 /// All nodes as they are written, with what stands before each bucket.
@@ -27,7 +28,7 @@ pub(crate) fn bucket_count(keys: u64) -> u64
 }
 
 /// Puts down how many keys and bits there are so far.
-fn put_start(parts: &Parts, starts: &mut Vec<u64>) -> Result<(), Memory>
+pub(crate) fn put_start(parts: &Parts, starts: &mut Vec<u64>) -> Result<(), Memory>
     ensures { OnOk result (starts.new.items ≡ starts.old.items ++ (length parts.now.offsets.items ∷ length parts.now.codes ∷ [])) }
 {
     starts.push(parts.offsets.len() as u64)?;
@@ -48,22 +49,26 @@ pub(crate) fn nodes_of<L: Ledger>(
     ensures { IfOk result (λ built. HoldsAll built (nodes_of tries (hashed_keys salt words.now.words))) }
 {
     let count = words.count() / 2;
-    let buckets = bucket_count(count);
-    let groups = groups_of(alloc, salt, words, buckets, steps)?;
-    let mut starts = Vec::with_capacity(
-        alloc,
-        buckets.saturating_mul(2).saturating_add(2) as usize,
-    )?;
-    let mut parts = Parts {
-        codes: RiceWriter::new(alloc),
-        offsets: Vec::with_capacity(alloc, count as usize)?,
-    };
-    for group in &groups {
-        put_start(&parts, &mut starts)?;
-        if !put_node(alloc, group.as_slice(), 0, tries, &mut parts)? {
-            return Ok(None);
-        }
-    }
-    put_start(&parts, &mut starts)?;
-    Ok(Some(Built { starts, parts }))
+    let groups = groups_of(alloc, salt, words, bucket_count(count), steps)?;
+    let parts = parts_of(alloc, groups.as_slice(), tries)?;
+    all_built(alloc, count, parts)
+}
+
+/// The same, where the nodes of many buckets are looked for side by side.
+pub(crate) fn nodes_side_by_side<R: Threads + Sync, L: Ledger>(
+    rt: &R,
+    alloc: Global,
+    salt: u64,
+    words: &WordFile,
+    tries: u32,
+    steps: &mut Steps<L>,
+) -> Result<Option<Built>, Memory>
+    requires paired { IsPaired words.now.words }
+    requires tries { tries ≤ 2 ^ 16 }
+    ensures { IfOk result (λ built. HoldsAll built (nodes_of tries (hashed_keys salt words.now.words))) }
+{
+    let count = words.count() / 2;
+    let groups = groups_of(alloc, salt, words, bucket_count(count), steps)?;
+    let parts = parts_side_by_side(rt, alloc, groups.as_slice(), tries)?;
+    all_built(alloc, count, parts)
 }

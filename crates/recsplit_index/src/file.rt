@@ -2,7 +2,7 @@ ghost use Rattle.std.specs.Prelude.{◌≡◌, ℕ, ◌+◌, ◌*◌, ◌<◌, �
 ghost use Rattle.word_file.specs.Paired.{IsPaired, KeysDiffer, key_count};
 ghost use Rattle.recsplit_index.specs.Keys.{IsKeyAt, IsNoKey};
 ghost use Rattle.recsplit_index.specs.Spelling.{Index, spelling};
-ghost use Rattle.recsplit_index.specs.Layout.{IsShapeOf};
+ghost use Rattle.recsplit_index.specs.Layout.{IsLayoutOf, IsShapeOf};
 ghost use Rattle.recsplit_index.specs.Index.{index_of, IsIndexOf};
 ghost use Rattle.word_file.specs.Difference.{first_difference};
 ghost use Rattle.word_file.specs.declared.access.AccessError.TheVariants.{Differs, Memory as NoMemory};
@@ -10,12 +10,13 @@ ghost use Rattle.word_file.specs.declared.access.AccessError.TheVariants.{Differ
 use crate::compare::compare;
 use crate::find::{find_sorted, is_key, offset_of};
 use crate::hash::key_hash;
-use crate::layout::{Shape, layout_of};
+use crate::layout::{Layout, Shape, first_layout, layout_of};
 use crate::spell::lay_out;
 use agg_outside::{Bytes, Memory, Steps};
 use std::alloc::Global;
 use std::marker::{Brand, Model};
 use std::sync::ledger::{Blank, Ledger};
+use std::thread::Threads;
 use word_file::{AccessError, WordFile};
 
 /// The hash accessor of a word file.
@@ -54,6 +55,22 @@ fn hold(shape: Shape, bytes: Bytes) -> HashIndex
     }
 }
 
+/// The accessor of this layout.
+fn held(alloc: Global, layout: &Layout) -> Result<HashIndex, Memory>
+    requires { (x : Index) × IsLayoutOf layout.now x }
+    ensures { (x : Index) → IsLayoutOf layout.now x → IfOk result (λ index. index ≡ x) }
+{
+    let bytes = lay_out(
+        alloc,
+        layout.form,
+        layout.salt,
+        layout.starts.as_slice(),
+        layout.offsets.as_slice(),
+        layout.text.as_slice(),
+    )?;
+    Ok(hold(layout.shape(), Bytes::from_vec(bytes)))
+}
+
 impl HashIndex {
     /// The accessor of the word file. Seeds are looked for below `tries`, and where they are not
     /// found under any of the eight salts, the form is 0.
@@ -66,15 +83,29 @@ impl HashIndex {
         ensures of_words { IfOk result (IsIndexOf words.now.words) }
     {
         let layout = layout_of::<Brand>(alloc, words, tries, Blank::new(1))?;
-        let bytes = lay_out(
-            alloc,
-            layout.form,
-            layout.salt,
-            layout.starts.as_slice(),
-            layout.offsets.as_slice(),
-            layout.text.as_slice(),
-        )?;
-        Ok(hold(layout.shape(), Bytes::from_vec(bytes)))
+        held(alloc, &layout)
+    }
+
+    /// The accessor of the word file, as `build` gives it. Where there are many keys, the seeds of its buckets are
+    /// looked for side by side.
+    pub fn build_side_by_side<R: Threads + Sync>(
+        rt: &R,
+        alloc: Global,
+        words: &WordFile,
+        tries: u32,
+    ) -> Result<HashIndex, Memory>
+        requires paired { IsPaired words.now.words }
+        requires differ { KeysDiffer words.now.words }
+        requires tries { tries ≤ 2 ^ 16 }
+        ensures ok { IfOk result (λ x. x ≡ index_of tries words.now.words) }
+        // What `find` asks for.
+        ensures of_words { IfOk result (IsIndexOf words.now.words) }
+    {
+        let first = first_layout::<R, Brand>(rt, alloc, words, tries, Blank::new(1))?;
+        match first {
+            Some(layout) => held(alloc, &layout),
+            None => HashIndex::build(alloc, words, tries),
+        }
     }
 
     /// The bytes as the accessor of the word file, where they are what `build` gives. They are

@@ -1,10 +1,10 @@
-ghost use Rattle.std.specs.Prelude.{◌≡◌, ◌<◌, ◌≤◌, ◌^◌, [], map, IfOk};
+ghost use Rattle.std.specs.Prelude.{◌≡◌, ◌<◌, ◌≤◌, ◌^◌, [], map, IfOk, IfSome};
 ghost use Rattle.word_file.specs.Paired.{IsPaired};
 ghost use Rattle.recsplit_index.specs.Index.{plain_index, index_of};
 ghost use Rattle.recsplit_index.specs.Spelling.{Index};
 ghost use Rattle.recsplit_index.specs.Layout.{IsLayoutOf, IsShapeOf};
 
-use crate::buckets::{Built, nodes_of};
+use crate::buckets::{Built, nodes_of, nodes_side_by_side};
 use crate::keys::by_key;
 use crate::nodes::Parts;
 use agg_outside::{Bytes, Memory, Steps};
@@ -12,6 +12,7 @@ use bit_store::RiceWriter;
 use std::alloc::Global;
 use std::collections::BTreeMap;
 use std::sync::ledger::{Blank, Ledger};
+use std::thread::Threads;
 use word_file::{WordFile, key_offsets};
 
 /// What an accessor holds, with its bits as their text.
@@ -110,4 +111,30 @@ pub(crate) fn layout_of<L: Ledger>(
         }
     }
     plain(alloc, words, &mut steps)
+}
+
+/// What the accessor of the word file holds, where each node has a seed under the first salt; the nodes of many buckets
+/// are looked for side by side.
+pub(crate) fn first_layout<R: Threads + Sync, L: Ledger>(
+    rt: &R,
+    alloc: Global,
+    words: &WordFile,
+    tries: u32,
+    blank: Blank,
+) -> Result<Option<Layout>, Memory>
+    requires name { blank.name ≡ L.name }
+    requires parts { blank.parts ≡ L.parts }
+    requires some { 0 < L.parts }
+    requires paired { IsPaired words.now.words }
+    requires tries { tries ≤ 2 ^ 16 }
+    ensures { IfOk result (λ layout. IfSome layout (λ l. IsLayoutOf l (index_of tries words.now.words))) }
+{
+    let mut steps = Steps::<L>::of(blank);
+    let built = nodes_side_by_side(rt, alloc, 0, words, tries, &mut steps)?;
+    let Some(built) = built else {
+        return Ok(None);
+    };
+    let Built { starts, parts } = built;
+    let Parts { codes, offsets } = parts;
+    Ok(Some(Layout::of(1, 0, starts, offsets, codes)))
 }

@@ -10,6 +10,7 @@ mod hash;
 mod keys;
 mod layout;
 mod nodes;
+mod parts;
 mod seeds;
 mod shared;
 mod spell;

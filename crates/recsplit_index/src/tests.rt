@@ -77,6 +77,17 @@ fn each_key_is_found(rt: HostRuntime) -> Result<(), Fail> {
     finds_all(&rt, rt.alloc(), 101, 65_536, 1)
 }
 
+/// 130 buckets are looked at by two threads.
+#[test]
+fn side_by_side_the_same_is_built(rt: HostRuntime) -> Result<(), Fail> {
+    let words = odd_keys(rt.alloc(), 13_000)?;
+    assert!(rt; keys_differ::<Brand>(&words, Blank::new(1)));
+    let index = HashIndex::build_side_by_side(&rt, rt.alloc(), &words, 65_536)?;
+    let alone = HashIndex::build(rt.alloc(), &words, 65_536)?;
+    assert!(rt; index.bytes() == alone.bytes());
+    Ok(())
+}
+
 #[test]
 fn each_key_is_found_where_there_are_no_seeds(rt: HostRuntime) -> Result<(), Fail> {
     finds_all(&rt, rt.alloc(), 1, 0, 1)?;

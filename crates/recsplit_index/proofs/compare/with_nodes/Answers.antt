@@ -1,4 +1,4 @@
-use Rattle.std.proofs.Common.{ℕ, ◌∙◌}
+use Rattle.std.proofs.Common.{◌∙◌}
 use Rattle.recsplit_index.specs.Spelling.{spelling}
 use Rattle.recsplit_index.specs.Index.{split_index}
 use Rattle.recsplit_index.proofs.Comparisons.{nodes_followed, nodes_shape}

@@ -1,4 +1,4 @@
-use Rattle.std.proofs.Common.{◌≡◌, true, false, ◌+◌, ◌*◌, ◌^◌, ◌<◌, ◌∷◌, [], le_refl, List, Bool, ℕ, Vec, Global, length, get_or, refl, ap, subst, sym, ◌∙◌, arith}
+use Rattle.std.proofs.Common.{◌≡◌, true, false, ◌+◌, ◌*◌, ◌^◌, ◌<◌, [], le_refl, List, Bool, ℕ, Vec, Global, length, get_or, refl, ap, subst, sym, ◌∙◌, arith}
 use Rattle.file_numbers.specs.Lists.{number_bytes, AreNumbers}
 use Rattle.recsplit_index.specs.declared.keys.HashedKey.{HashedKey}
 use Rattle.recsplit_index.specs.Keys.{hashed_keys}

@@ -1,4 +1,4 @@
-use Rattle.std.proofs.Common.{◌≡◌, List, ℕ, Some, None, sym, ap, ◌∙◌}
+use Rattle.std.proofs.Common.{◌≡◌, List, ℕ, Some, sym, ap, ◌∙◌}
 use Rattle.word_file.specs.Difference.{first_difference}
 use Rattle.word_file.proofs.Differences.{first_difference-same}
 use Rattle.recsplit_index.specs.Spelling.{spelling}

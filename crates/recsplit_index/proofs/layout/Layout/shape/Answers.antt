@@ -1,4 +1,4 @@
-use Rattle.std.proofs.Common.{ap, length, ℕ, arith}
+use Rattle.std.proofs.Common.{ap, length, arith}
 use Rattle.recsplit_index.proofs.layout.Layout.shape.Goals as goal
 
 pub returns : goal.returns
