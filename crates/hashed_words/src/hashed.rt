@@ -15,6 +15,7 @@ use recsplit_index::HashIndex;
 use std::alloc::Global;
 use std::marker::{Brand, Model};
 use std::sync::ledger::{Blank, Ledger};
+use std::thread::Threads;
 use word_file::WordFile;
 
 /// Pairs of words, and the hash accessor of their keys.
@@ -43,6 +44,21 @@ impl HashedWords {
         ensures { IfOk result (λ h. h ≡ words) }
     {
         let index = HashIndex::build(alloc, &words, TRIES)?;
+        Ok(HashedWords { words, index })
+    }
+
+    /// The words behind the accessor that is built of them, as `of` gives them; where there are many keys, the seeds of
+    /// the accessor are looked for side by side.
+    pub fn of_side_by_side<R: Threads + Sync>(
+        rt: &R,
+        alloc: Global,
+        words: WordFile,
+    ) -> Result<HashedWords, Memory>
+        requires paired { IsPaired words.words }
+        requires differ { KeysDiffer words.words }
+        ensures { IfOk result (λ h. h ≡ words) }
+    {
+        let index = HashIndex::build_side_by_side(rt, alloc, &words, TRIES)?;
         Ok(HashedWords { words, index })
     }
 
