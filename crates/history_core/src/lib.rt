@@ -14,7 +14,7 @@ mod v_file;
 
 pub use agg_model::{Before, Befores};
 pub use befores::are_befores;
-pub use build::build_v;
+pub use build::{build_v, build_v_side_by_side};
 pub use laws::{file_laws, list_laws, v_tag};
 pub use shared::shares_v_file;
 pub use v_file::VFile;

@@ -16,6 +16,7 @@ use hashed_words::{FileError, HashedWords};
 use std::alloc::Global;
 use std::marker::Model;
 use std::sync::ledger::Ledger;
+use std::thread::Threads;
 use word_file::{Tag, WordFile};
 
 /// The values that keys had before their changes, by key and number, with what they are of.
@@ -45,6 +46,21 @@ impl VFile {
             IfOk result (λ f. f ≡ tagged_befores words.tag befores) }
     {
         let file = HashedWords::of(alloc, words)?;
+        Ok(VFile { file })
+    }
+
+    /// The file of words that are known to be its spelling; the accessor is built, side by side where there are many
+    /// changes.
+    pub fn of_side_by_side<R: Threads + Sync>(
+        rt: &R,
+        alloc: Global,
+        words: WordFile,
+    ) -> Result<VFile, Memory>
+        requires { (befores : List Before) × IsFileOf words befores }
+        ensures { (befores : List Before) → IsFileOf words befores →
+            IfOk result (λ f. f ≡ tagged_befores words.tag befores) }
+    {
+        let file = HashedWords::of_side_by_side(rt, alloc, words)?;
         Ok(VFile { file })
     }
 
