@@ -22,7 +22,7 @@ use crate::side::{MANY, both};
 use agg_model::{Change, Entity, Range, StepRows};
 use agg_outside::{ListOf, Memory};
 use domain_core::{KvFile, are_pairs, build_kv, kv_tag, step_pairs};
-use history_core::{VFile, are_befores, build_v, v_tag};
+use history_core::{VFile, are_befores, build_v_side_by_side, v_tag};
 use inverted_index::{EfFile, are_lists, build_ef, ef_tag};
 use std::alloc::Global;
 use std::rt::Clock;
@@ -73,7 +73,8 @@ fn kv_file(alloc: Global, place: Place, changes: &[Change]) -> Result<KvFile, Me
 }
 
 // The values before the changes of the step. Changes of no list are answered as want of memory.
-fn v_file(
+fn v_file<R: Threads + Sync>(
+    rt: &R,
     alloc: Global,
     place: Place,
     changes: &[Change],
@@ -96,7 +97,7 @@ fn v_file(
     if !are_befores(tag, &befores) {
         return Err(Memory);
     }
-    build_v(alloc, tag, &befores)
+    build_v_side_by_side(rt, alloc, tag, &befores)
 }
 
 // The numbers of the changes of the step. Changes of no list are answered as want of memory.
@@ -145,13 +146,13 @@ fn v_and_ef<R: Threads + Sync>(
                 IfOk result (λ f. f ≡ ef_file list.size list.changes place.entity place.step (place.step + 1))) }
         { ef_file(alloc, place, changes) },
         || -> Result<VFile, Memory>
-            requires { place.step < 4096 }
+            requires { IsSync R.row × (place.step < 4096) }
             ensures { IfOk result (λ f. f.tag ≡ v_tag place.entity place.size place.step (place.step + 1))
                 × ((list : ChangeList) → IsChangeList list → list.size ≡ place.size →
                 changes.entry.now ≡ changes_over list.size list.changes place.entity place.step (place.step + 1) →
                 IsDomain place.entity → AreGroupsBelow list place.step (map (λ g. arc_value g) before.entry.now) →
                 IfOk result (λ f. f ≡ v_of list place.entity (step_range place.step))) }
-        { v_file(alloc, place, changes, before) },
+        { v_file(rt, alloc, place, changes, before) },
     )
 }
 
@@ -279,9 +280,11 @@ fn groups_from<R: Threads + Sync>(
 /// of memory. Each key is looked up once among the groups of its entity below, from the newest to the first that has
 /// it.
 ///
-/// Entities, and the three files of a domain, are built side by side where both sides have 1,000 changes; a side for
-/// which no thread can be made is built after the other. Beside the groups each thread holds one list of the changes
-/// that it collates at a time, so a domain's three lists may be held at once.
+/// Entities, and the three files of a domain, are built side by side where both sides have 1,000 changes; so are the
+/// seeds of the accessor of a domain's earlier values, where it has many keys. A side for which no thread can be made
+/// is built after the other. Beside the groups each thread holds one list of the changes that it collates at a time, so
+/// a domain's three lists may be held at once, and each thread that looks for seeds holds the bits that it found of the
+/// accessor until all are put together.
 pub fn collate<H: Threads + Wait + Clock + Sync>(
     rt: &H,
     alloc: Global,

@@ -11,7 +11,7 @@ use Rattle.collate_step.proofs.StepValues.{befores-step}
 use Rattle.collate_step.proofs.step.v_file.Goals as goal
 
 pub returns-clause-file : goal.returns-clause-file
-returns-clause-file c =
+returns-clause-file g c =
     λ list valid size are domain below.
     let e = c.args.place.entity in
     let step = c.args.place.step in
@@ -22,4 +22,4 @@ returns-clause-file c =
     c.in_ok-befores.ensures ∙ ap (λ look. befores_behind look None c.args.changes.now) picked ∙ ap (befores_behind (value_in_groups e groups) None) are ∙ befores-step list e step groups valid domain below in
     let tag : c.v_tag-tag.result ≡ v_tag e list.size step (step + 1) =
     c.v_tag-tag.ensures ∙ (λ i. v_tag e (sym size i) (c.range_of.ensures i).from (c.range_of.ensures i).to) in
-    IfOk-weaker c.build_v.result _ _ (λ f is. is ∙ (λ i. tagged_befores (tag i) (befores i))) c.build_v.ensures
+    IfOk-weaker c.build_v_side_by_side.result _ _ (λ f is. is ∙ (λ i. tagged_befores (tag i) (befores i))) c.build_v_side_by_side.ensures
