@@ -1,12 +1,12 @@
-ghost use Rattle.std.specs.Prelude.{◌<◌, ◌≤◌};
 ghost use Rattle.merge_files.specs.Walks.{IsWalked};
 
 use super::*;
 use crate::input::have_file;
 use agg_model::{Act, Batch, Change, Entity, FileKind, Range, StepRows};
 use agg_outside::{Bytes, Memory};
-use collate_step::{EntityFiles, Inputs, collate};
+use collate_step::{EntityFiles, Groups, Inputs, collate};
 use elias_fano::EfList;
+use file_numbers::u64_at;
 use merge_ranges::is_aligned_range;
 use std::alloc::Global;
 use std::rt::Clock;
@@ -24,11 +24,11 @@ const KINDS: [FileKind; 7] = [
     FileKind::Efi,
 ];
 
-/// How long the header of a word file is.
+/// How long the header of a word file is; the size and the numbers of the steps stand in it from 8 to 32.
 const HEADER: usize = 40;
 
 /// A change of the accounts: its key, its number and the value, which is 0 where the key is deleted.
-type Row = (u8, u64, u8);
+type Row = (u8, u8, u8);
 
 /// A key that is put twice, one that is put once, and a number without a change.
 const PUTS: [Row; 3] = [(0xaa, 0, 1), (0xaa, 1, 2), (0xbb, 1, 3)];
@@ -47,34 +47,58 @@ const DELETIONS: [Row; 9] = [
     (0xee, 7, 5),
 ];
 
+fn act_of(alloc: Global, value: u8) -> Result<Act, Memory> {
+    if value == 0 {
+        return Ok(Act::Del);
+    }
+    Ok(Act::Put(Bytes::of(alloc, &[value])?))
+}
+
 fn change_of(alloc: Global, row: Row) -> Result<Change, Memory> {
-    let (key, tx, value) = row;
-    let key = Bytes::of(alloc, &[key])?;
-    let act = if value == 0 {
-        Act::Del
-    } else {
-        Act::Put(Bytes::of(alloc, &[value])?)
-    };
-    let entity = Entity::Accounts;
+    let act = act_of(alloc, row.2)?;
+    let key = Bytes::of(alloc, &[row.0])?;
     Ok(Change {
-        tx,
-        entity,
+        tx: row.1 as u64,
+        entity: Entity::Accounts,
         key,
         act,
     })
 }
 
 // The changes of a step.
-fn changes_in(alloc: Global, rows: &[Row], step: u64, size: u64) -> Result<Batch, Memory>
-    requires { 0 < size }
-{
+fn changes_in(alloc: Global, rows: &[Row], step: u64, size: u64) -> Result<Batch, Memory> {
     let mut changes = Batch::new(alloc);
     for row in rows {
-        if row.1 / size == step {
+        if (row.1 as u64).checked_div(size) == Some(step) {
             changes.push(change_of(alloc, *row)?)?;
         }
     }
     Ok(changes)
+}
+
+// Adds the first group, which is that of the accounts.
+fn add_first(alloc: Global, groups: &mut Inputs, mut all: Groups) -> Result<(), Memory> {
+    if all.len() > 0 {
+        groups.push(Arc::new(alloc, all.remove(0))?)?;
+    }
+    Ok(())
+}
+
+// Adds the group of the accounts over a step to those below it.
+fn add_step<H: Threads + Wait + Clock + Sync>(
+    rt: &H,
+    alloc: Global,
+    groups: &mut Inputs,
+    step: u64,
+    changes: Batch,
+    size: u64,
+) -> Result<(), Memory> {
+    if step >= 4096 {
+        return Err(Memory);
+    }
+    let rows = StepRows { step, changes };
+    let all = collate(rt, alloc, &rows, groups.as_slice(), size)?;
+    add_first(alloc, groups, all)
 }
 
 // The groups of the accounts over the first steps.
@@ -84,66 +108,100 @@ fn collated<H: Threads + Wait + Clock + Sync>(
     rows: &[Row],
     size: u64,
     count: u64,
-) -> Result<Inputs, Fail>
-    requires size { 0 < size }
-    requires count { count ≤ 4096 }
-{
+) -> Result<Inputs, Memory> {
     let mut groups = Inputs::new(alloc);
     for step in 0..count {
         let changes = changes_in(alloc, rows, step, size)?;
-        let step_rows = StepRows { step, changes };
-        let all = collate(rt, alloc, &step_rows, groups.as_slice(), size)?;
-        for group in all.into_vec() {
-            if group.entity() == Entity::Accounts {
-                groups.push(Arc::new(alloc, group)?)?;
-            }
-        }
+        add_step(rt, alloc, &mut groups, step, changes, size)?;
     }
     Ok(groups)
 }
 
-// Whether both groups have the same words and accessors; their headers are of other steps.
-fn same_files(one: &EntityFiles, other: &EntityFiles) -> bool {
+// Whether the bytes are a word file over these steps of size 1 with the words of the other.
+fn has_words(bytes: &[u8], other: &[u8], range: Range) -> bool {
+    if bytes.len() < HEADER || other.len() < HEADER {
+        return false;
+    }
+    let steps = (u64_at(bytes, 8), u64_at(bytes, 16), u64_at(bytes, 24));
+    bytes[..8] == other[..8] && steps == (1, range.from, range.to) && bytes[32..] == other[32..]
+}
+
+// Whether the bytes are those of the other's file of the kind, but for the steps in a header, which are of size 1.
+fn is_file(kind: FileKind, bytes: &[u8], other: &[u8], range: Range) -> bool {
+    match kind {
+        FileKind::Kv | FileKind::V | FileKind::Ef => has_words(bytes, other, range),
+        _ => bytes == other,
+    }
+}
+
+// Whether each file of the group over steps of size 1 has the bytes of the other's.
+fn is_group(group: &EntityFiles, other: &EntityFiles, range: Range) -> bool {
     for kind in KINDS {
-        let (Some(bytes), Some(others)) = (one.bytes_of(kind), other.bytes_of(kind)) else {
+        let (Some(bytes), Some(others)) = (group.bytes_of(kind), other.bytes_of(kind)) else {
             return false;
         };
-        let header = match kind {
-            FileKind::Kv | FileKind::V | FileKind::Ef => HEADER,
-            _ => 0,
-        };
-        if bytes.len() < header || others.len() < header || bytes[header..] != others[header..] {
+        if !is_file(kind, bytes, others, range) {
             return false;
         }
     }
     true
 }
 
-// The merged group of some of the groups, over a range.
+// The merged group.
 fn merged(
     alloc: Global,
     groups: &[Arc<EntityFiles>],
-    from: u64,
-    to: u64,
-) -> Result<EntityFiles, Fail> {
-    let range = Range { from, to };
+    range: Range,
+) -> Result<EntityFiles, MergeError> {
     if !is_aligned_range(range) {
-        return Err(Fail::new("not aligned"));
+        return Err(MergeError::Memory);
     }
-    Ok(merge(alloc, groups, range)?)
+    merge(alloc, groups, range)
+}
+
+// Whether the groups from the range's first step on, merged, are the last of the others.
+fn become_last(
+    alloc: Global,
+    groups: &[Arc<EntityFiles>],
+    others: &[Arc<EntityFiles>],
+    range: Range,
+) -> Result<bool, MergeError> {
+    let (Some(parts), Some(other)) = (groups.get(range.from as usize..), others.last()) else {
+        return Ok(false);
+    };
+    let group = merged(alloc, parts, range)?;
+    Ok(is_group(&group, other, range))
+}
+
+// Whether the groups, merged, are what is collated where a step is as long as the range.
+fn become_step<H: Threads + Wait + Clock + Sync>(
+    rt: &H,
+    alloc: Global,
+    rows: &[Row],
+    groups: &[Arc<EntityFiles>],
+    range: Range,
+) -> Result<bool, MergeError> {
+    let size = range.to.saturating_sub(range.from);
+    let count = range.to.checked_div(size).unwrap_or(0);
+    let others = collated(rt, alloc, rows, size, count)?;
+    become_last(alloc, groups, others.as_slice(), range)
+}
+
+// Whether the groups of the range's steps are that.
+fn become_one<H: Threads + Wait + Clock + Sync>(
+    rt: &H,
+    alloc: Global,
+    rows: &[Row],
+    range: Range,
+) -> Result<bool, MergeError> {
+    let groups = collated(rt, alloc, rows, 1, range.to)?;
+    become_step(rt, alloc, rows, groups.as_slice(), range)
 }
 
 #[test]
 fn two_groups_become_their_collation_as_one_range(rt: HostRuntime) -> Result<(), Fail> {
-    let alloc = rt.alloc();
-    let groups = collated(&rt, alloc, &PUTS, 1, 2)?;
-    let whole = collated(&rt, alloc, &PUTS, 2, 1)?;
-    let group = merged(alloc, groups.as_slice(), 0, 2)?;
-    assert!(rt; same_files(&group, whole.get(0).ok_or("no group")?));
-    let header =
-        b"AGW1\0\0\0\x01\0\0\0\0\0\0\0\x01\0\0\0\0\0\0\0\0\0\0\0\0\0\0\0\x02\0\0\0\0\0\0\0\x04";
-    let bytes = group.bytes_of(FileKind::Kv).ok_or("no values")?;
-    assert!(rt; bytes.starts_with(header));
+    let is_one = become_one(&rt, rt.alloc(), &PUTS, Range { from: 0, to: 2 })?;
+    assert!(rt; is_one);
     Ok(())
 }
 
@@ -151,30 +209,59 @@ fn two_groups_become_their_collation_as_one_range(rt: HostRuntime) -> Result<(),
 fn deletions_and_steps_without_changes_are_as_in_one_collation(
     rt: HostRuntime,
 ) -> Result<(), Fail> {
-    let alloc = rt.alloc();
-    let groups = collated(&rt, alloc, &DELETIONS, 1, 8)?;
-    let whole = collated(&rt, alloc, &DELETIONS, 8, 1)?;
-    let group = merged(alloc, groups.as_slice(), 0, 8)?;
-    assert!(rt; same_files(&group, whole.get(0).ok_or("no group")?));
-    let halves = collated(&rt, alloc, &DELETIONS, 4, 2)?;
-    let later = groups.as_slice().get(4..8).ok_or("no groups")?;
-    let group = merged(alloc, later, 4, 8)?;
-    assert!(rt; same_files(&group, halves.get(1).ok_or("no group")?));
+    for range in [Range { from: 0, to: 8 }, Range { from: 4, to: 8 }] {
+        let is_one = become_one(&rt, rt.alloc(), &DELETIONS, range)?;
+        assert!(rt; is_one);
+    }
     Ok(())
 }
 
-/// A walk over the values of the groups; their files are there.
+// The changes of a key at every seventh number below 64, of which every fifth number deletes.
+fn add_key(rows: &mut Vec<Row>, key: u8) -> Result<(), Memory> {
+    for number in 0..64u8 {
+        if number % 7 == key {
+            rows.push((key, number, number % 5))?;
+        }
+    }
+    Ok(())
+}
+
+// A change of one of seven keys at each number below 64.
+fn many_rows(alloc: Global) -> Result<Vec<Row>, Memory> {
+    let mut rows = Vec::new(alloc);
+    for key in 0..7u8 {
+        add_key(&mut rows, key)?;
+    }
+    Ok(rows)
+}
+
+fn sixty_four_become_one<H: Threads + Wait + Clock + Sync>(
+    rt: &H,
+    alloc: Global,
+) -> Result<bool, MergeError> {
+    let rows = many_rows(alloc)?;
+    become_one(rt, alloc, rows.as_slice(), Range { from: 0, to: 64 })
+}
+
+#[test]
+fn sixty_four_groups_become_their_collation_as_one_range(rt: HostRuntime) -> Result<(), Fail> {
+    let is_one = sixty_four_become_one(&rt, rt.alloc())?;
+    assert!(rt; is_one);
+    Ok(())
+}
+
+/// A walk over the files of the groups, which are there.
 fn walk_over(
     alloc: Global,
     groups: &[Arc<EntityFiles>],
     kind: FileKind,
-) -> Result<MergeWalk<'_>, Fail>
+) -> Result<MergeWalk<'_>, Memory>
     requires { IsWalked kind }
 {
     if !have_file(groups, kind) {
-        return Err(Fail::new("a file is missing"));
+        return Err(Memory);
     }
-    Ok(MergeWalk::of(alloc, groups, kind)?)
+    MergeWalk::of(alloc, groups, kind)
 }
 
 // Whether the next item has this key, this newest value and so many lists.
@@ -183,6 +270,11 @@ fn gives(walk: &mut MergeWalk<'_>, key: u8, value: u8, lists: usize) -> bool {
         return false;
     };
     item.key() == [key].as_slice() && item.newest() == [value].as_slice() && item.lists() == lists
+}
+
+// Whether the walk gives the two keys of `PUTS`, and then nothing.
+fn gives_puts(walk: &mut MergeWalk<'_>) -> bool {
+    gives(walk, 0xaa, 2, 2) && gives(walk, 0xbb, 3, 1) && walk.next().is_none()
 }
 
 // Whether the next item has two lists, of these first numbers.
@@ -204,23 +296,20 @@ fn starts_with(list: &EfList<'_>, number: u64) -> bool {
     list.len() > 0 && list.get(0) == number
 }
 
-#[test]
-fn a_walk_gives_each_key_once_with_its_newest_value(rt: HostRuntime) -> Result<(), Fail> {
-    let alloc = rt.alloc();
-    let groups = collated(&rt, alloc, &PUTS, 1, 2)?;
-    let mut walk = walk_over(alloc, groups.as_slice(), FileKind::Kv)?;
-    assert!(rt; gives(&mut walk, 0xaa, 2, 2));
-    assert!(rt; gives(&mut walk, 0xbb, 3, 1));
-    assert!(rt; walk.next().is_none());
-    Ok(())
+// Whether walks over the values and over the lists of two groups give what is in them.
+fn are_walked<H: Threads + Wait + Clock + Sync>(rt: &H, alloc: Global) -> Result<bool, Memory> {
+    let groups = collated(rt, alloc, &PUTS, 1, 2)?;
+    let mut values = walk_over(alloc, groups.as_slice(), FileKind::Kv)?;
+    let mut lists = walk_over(alloc, groups.as_slice(), FileKind::Ef)?;
+    Ok(gives_puts(&mut values) && gives_lists(&mut lists, 0, 1))
 }
 
 #[test]
-fn a_walk_over_lists_gives_those_of_each_input(rt: HostRuntime) -> Result<(), Fail> {
-    let alloc = rt.alloc();
-    let groups = collated(&rt, alloc, &PUTS, 1, 2)?;
-    let mut walk = walk_over(alloc, groups.as_slice(), FileKind::Ef)?;
-    assert!(rt; gives_lists(&mut walk, 0, 1));
+fn a_walk_gives_each_key_once_with_its_newest_value_and_all_lists(
+    rt: HostRuntime,
+) -> Result<(), Fail> {
+    let are_walked = are_walked(&rt, rt.alloc())?;
+    assert!(rt; are_walked);
     Ok(())
 }
 
@@ -231,20 +320,19 @@ fn a_walk_over_no_input_has_nothing_to_give(rt: HostRuntime) -> Result<(), Fail>
     Ok(())
 }
 
+// Whether the first and the third group aren't adjacent at the place of the third.
+fn has_gap<H: Threads + Wait + Clock + Sync>(rt: &H, alloc: Global) -> Result<bool, Memory> {
+    let mut groups = collated(rt, alloc, &DELETIONS, 1, 3)?;
+    if groups.len() > 1 {
+        let _second = groups.remove(1);
+    }
+    let group = merged(alloc, groups.as_slice(), Range { from: 0, to: 2 });
+    Ok(group.err() == Some(MergeError::NotAdjacent(1)))
+}
+
 #[test]
 fn a_gap_is_found_where_it_is(rt: HostRuntime) -> Result<(), Fail> {
-    let alloc = rt.alloc();
-    let groups = collated(&rt, alloc, &DELETIONS, 1, 3)?;
-    let mut apart = Inputs::new(alloc);
-    for (i, group) in groups.into_vec().into_iter().enumerate() {
-        if i != 1 {
-            apart.push(group)?;
-        }
-    }
-    let range = Range { from: 0, to: 2 };
-    if is_aligned_range(range) {
-        let group = merge(alloc, apart.as_slice(), range);
-        assert_eq!(rt; group.err(), Some(MergeError::NotAdjacent(1)));
-    }
+    let has_gap = has_gap(&rt, rt.alloc())?;
+    assert!(rt; has_gap);
     Ok(())
 }
