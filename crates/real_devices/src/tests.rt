@@ -2,6 +2,7 @@ use crate::{DirDisk, Record, SqlKeeper, Table, TableWrite};
 use agg_outside::{Bytes, Disk, DiskError, Keeper, KeeperError, Memory, Row, RowId, RowWrite};
 use std::alloc::Global;
 use std::fs;
+use std::os::unix::fs::symlink;
 use std::process::Abort;
 use std::test::Fail;
 
@@ -249,5 +250,21 @@ fn a_file_in_place_of_the_folder_is_refused_and_left(rt: HostRuntime) -> Result<
     assert_eq!(rt; disk.remove(alloc, b"a"), Err(DiskError::Failed));
     assert!(rt; fs::read(&rt, TEXT)?.as_slice() == b"text".as_slice());
     fs::remove_file(&rt, TEXT)?;
+    Ok(())
+}
+
+const FULL: &str = "real_devices_full";
+
+#[test]
+fn a_full_device_is_refused_and_the_next_file_is_written(rt: HostRuntime) -> Result<(), Fail> {
+    let alloc = rt.alloc();
+    let _ = fs::remove_dir_all(&rt, FULL);
+    fs::create_dir(&rt, FULL)?;
+    symlink(&rt, "/dev/full", "real_devices_full/a")?;
+    let mut disk = DirDisk::at(&rt, FULL);
+    assert_eq!(rt; disk.write_new(alloc, b"a", b"x"), Err(DiskError::Failed));
+    assert_eq!(rt; disk.write_new(alloc, b"b", b"x"), Ok(()));
+    assert!(rt; disk.read(alloc, b"b")?.as_slice() == b"x".as_slice());
+    fs::remove_dir_all(&rt, FULL)?;
     Ok(())
 }
