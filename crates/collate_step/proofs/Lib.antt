@@ -3,3 +3,4 @@ mod KeyRuns
 mod GroupWalks
 mod StepValues
 mod Fits
+mod BeforeCuts

@@ -92,7 +92,7 @@ fn v_file<R: Threads + Sync>(
         entity: place.entity,
         groups: own.as_slice(),
     };
-    let befores = step_befores(alloc, &earlier, changes)?;
+    let befores = step_befores(rt, alloc, &earlier, changes)?;
     let tag = v_tag(place.entity, place.size, range_of(place));
     if !are_befores(tag, &befores) {
         return Err(Memory);
@@ -280,11 +280,10 @@ fn groups_from<R: Threads + Sync>(
 /// of memory. Each key is looked up once among the groups of its entity below, from the newest to the first that has
 /// it.
 ///
-/// Entities, and the three files of a domain, are built side by side where both sides have 1,000 changes; so are the
-/// seeds of the accessor of a domain's earlier values, where it has many keys. A side for which no thread can be made
-/// is built after the other. Beside the groups each thread holds one list of the changes that it collates at a time, so
-/// a domain's three lists may be held at once, and each thread that looks for seeds holds the bits that it found of the
-/// accessor until all are put together.
+/// Entities, and the three files of a domain, are built side by side where both sides have 1,000 changes. So are the
+/// values before of parts of 8,000 and more changes, and the seeds of their accessor. A side for which no thread can be
+/// made is built after the other. Beside the groups each thread holds one list of the changes that it collates at a
+/// time, so a domain's three lists may be held at once, and what is found of an accessor until all is put together.
 pub fn collate<H: Threads + Wait + Clock + Sync>(
     rt: &H,
     alloc: Global,
