@@ -51,10 +51,34 @@ diff "$work/replies" "$work/output"
 echo "transactions over files and rows: as written down"
 
 called "the step in one word" 0 one_step.out "" one_step.txt run --step=4
-for words in "" "serve" "run --step" "run --step 0" "run --step=4 --step=4" "run --" "run 4"; do
+called "zeros in front" 0 one_step.out "" one_step.txt run --step 0000000004
+called "the largest step" 0 first_path.out "" first_path.txt run --step=4294967296
+called "no input" 0 "$work/nothing" "" "$work/nothing" run
+while read -r words; do
   read -ra list <<<"$words"
   called "no command: $words" 1 "$work/nothing" "aggregator: usage" first_path.txt "${list[@]}"
-done
+done <<'END'
+
+serve
+fly
+--step=4
+run --
+run --step
+run --step=
+run --step 0
+run --step 4294967297
+run --step 00000000004
+run --step 4x
+run --step -1
+run --step 1 --step=1
+run --step=4 --step=4
+run --workers=1
+run --workers 17
+run 4
+--step 1 run
+END
+called "an empty word" 1 "$work/nothing" "aggregator: usage" first_path.txt ""
+called "an empty value" 1 "$work/nothing" "aggregator: usage" first_path.txt run --step ""
 called "a word that is no text" 1 "$work/nothing" "aggregator: usage" first_path.txt run $'\xff'
 
 # An output that is closed at once counts as a fault of the sink.

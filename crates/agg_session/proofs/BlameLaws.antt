@@ -9,11 +9,11 @@ use Rattle.state_store.specs.declared.stop.Stop.{Stop}
 use Rattle.state_store.specs.declared.stop.Stop.TheVariants as stops
 use Rattle.state_store.specs.declared.store.Store.{Store}
 use Rattle.state_store.specs.Store.{Goes, HasCauses}
-use Rattle.agg_session.proofs.StoreLaws.{goes-refl, goes-trans}
+use Rattle.session_link.proofs.StoreLaws.{goes-refl, goes-trans}
 use Rattle.agg_session.specs.declared.ends.LinkEnd.{LinkEnd}
 use Rattle.agg_session.specs.declared.ends.LinkEnd.TheVariants as ends
 use Rattle.agg_session.specs.Ends.{IsBlamed, IsWant, ended_by, end_of_stop, end_of_sink}
-use Rattle.agg_session.specs.Running.{KeepsDevices}
+use Rattle.session_link.specs.Running.{KeepsDevices}
 
 -- ---- counts
 

@@ -1,7 +1,3 @@
-pub mod StoreLaws
-pub mod LinkLaws
-pub mod SessionLaws
-pub mod LineLaws
 pub mod ServingLaws
 pub mod StoppingLaws
 pub mod BlameLaws

@@ -13,12 +13,12 @@ use Rattle.agg_outside.specs.declared.disk.Disk.{Ghosts as DiskGhosts}
 use Rattle.line_words.specs.Lines.{lines_from}
 use Rattle.line_words.specs.LineCut.{Uncut, Piece, is_feed, piece_of, cut_at, next_cut, rest_cut, pieces_of}
 use Rattle.line_words.proofs.Pieces.{next_cut-lines, next_cut-feed, rest_cut-lines}
-use Rattle.agg_session.specs.declared.limits.Limits.{Limits}
-use Rattle.agg_session.specs.declared.session.Session.{Session}
+use Rattle.session_link.specs.declared.limits.Limits.{Limits}
+use Rattle.session_link.specs.declared.session.Session.{Session}
 use Rattle.agg_session.specs.declared.served.Served.{Served}
-use Rattle.agg_session.specs.State.{State}
+use Rattle.session_link.specs.State.{State}
 use Rattle.agg_session.specs.Answer.{effect, replies, state_after, AreSettled, joined, but_last, ended_lines}
-use Rattle.agg_session.specs.Running.{Stands, HasEffect}
+use Rattle.session_link.specs.Running.{Stands, HasEffect}
 use Rattle.state_store.specs.Store.{steps_held}
 use Rattle.agg_session.specs.Served.{IsServed, IsAnswered, HasAnswered}
 

@@ -4,18 +4,24 @@ use Rattle.std.proofs.lemmas.List.{take-append-drop}
 use Rattle.std.specs.Option.{ForSome}
 use Rattle.agg_outside.specs.declared.disk.Disk.{Ghosts as DiskGhosts}
 use Rattle.line_words.specs.LineCut.{Uncut, Piece, next_cut, rest_cut, pieces_of}
-use Rattle.agg_session.specs.declared.limits.Limits.{Limits}
-use Rattle.agg_session.specs.declared.session.Session.{Session}
+use Rattle.session_link.specs.declared.limits.Limits.{Limits}
+use Rattle.session_link.specs.declared.session.Session.{Session}
 use Rattle.state_store.specs.declared.store.Store.{Store}
+use Rattle.agg_model.specs.ChangeList.{ChangeList}
 use Rattle.agg_session.specs.declared.served.Served.{Served}
-use Rattle.agg_session.specs.State.{State}
+use Rattle.session_link.specs.State.{State}
 use Rattle.agg_session.specs.Answer.{effect, replies, state_after, AreSettled, joined, ended_lines, IsBegun, BeginsWith}
-use Rattle.agg_session.specs.Running.{StillHas, Stands, HasEffect, EndsAt}
-use Rattle.state_store.specs.Store.{steps_held}
-use Rattle.agg_session.proofs.StoreLaws.{kept}
+use Rattle.session_link.specs.Running.{StillHas, Stands, HasEffect, EndsAt}
+use Rattle.state_store.specs.Store.{Holds, steps_held}
+use Rattle.session_link.proofs.StoreLaws.{kept}
 use Rattle.agg_session.specs.Served.{IsServed, IsAnswered, HasAnswered, HasStopped}
 use Rattle.agg_session.specs.Written.{BeginsToPut}
 use Rattle.agg_session.proofs.ServingLaws.{ended_lines-split, ended_lines-none, left_less, whole_text, last_piece, settled-more}
+
+-- where a line wasn't worked on, if there was one
+pub ends_before : {D K : Type 0} (disk : DiskGhosts D) (store : Store D K) (list : ChangeList) (o : Option Piece) (after : Piece → ChangeList) → Holds disk store list → IfSome o (λ p. EndsAt disk store list (after p))
+ends_before disk store list None after holds = tt
+ends_before disk store list (Some p) after holds = inl (kept disk store list holds)
 
 -- the next line is not worked on, whatever it is
 pub not_begun : (limits : Limits) (n : ℕ) (rest : List Piece) (s : State) → IsBegun limits n rest s [] s.list

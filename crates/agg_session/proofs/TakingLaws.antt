@@ -5,11 +5,11 @@ use Rattle.std.proofs.lemmas.List.{take-append-drop}
 use Rattle.std.proofs.lemmas.Grind.{common_steps}
 use Rattle.agg_outside.specs.declared.disk.Disk.{Ghosts as DiskGhosts}
 use Rattle.line_words.specs.LineCut.{next_cut, pieces_of}
-use Rattle.agg_session.specs.declared.limits.Limits.{Limits}
+use Rattle.session_link.specs.declared.limits.Limits.{Limits}
 use Rattle.agg_session.specs.declared.served.Served.{Served}
 use Rattle.agg_session.specs.declared.ends.LinkEnd.{LinkEnd}
 use Rattle.agg_session.specs.declared.ends.LinkEnd.TheVariants.{Done}
-use Rattle.agg_session.specs.State.{State}
+use Rattle.session_link.specs.State.{State}
 use Rattle.agg_session.specs.Answer.{ended_lines}
 use Rattle.agg_session.specs.Served.{IsServed, IsAnswered, HasAnswered, HasStopped, IsTaken, IsAtEnd, Takes, TakesPart, Progress, ServesAll, ServesEnded, ServesPart, EndsLong, TakesAtMost, TakesFewer}
 use Rattle.agg_session.proofs.StoppingLaws.{stops_before, all_ended}

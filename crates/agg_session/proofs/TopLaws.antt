@@ -26,21 +26,22 @@ use Rattle.merge_ranges.specs.CanonicalNames.{names_over}
 use Rattle.state_store.specs.declared.store.Store.{Store}
 use Rattle.group_files.specs.NewFiles.{names_for}
 use Rattle.state_store.specs.Store.{IsStore, Holds, Keeps, HasView, ArePinned, Goes, HasNoFile, steps_held}
-use Rattle.agg_session.proofs.StoreLaws.{goes-trans}
-use Rattle.agg_session.specs.declared.link.Link.{Link}
-use Rattle.agg_session.specs.declared.limits.Limits.{Limits}
+use Rattle.session_link.proofs.StoreLaws.{goes-trans}
+use Rattle.session_link.proofs.SessionLaws.{first_session}
+use Rattle.session_link.specs.declared.link.Link.{Link}
+use Rattle.session_link.specs.declared.limits.Limits.{Limits}
 use Rattle.agg_session.specs.declared.served.Served.{Served}
 use Rattle.agg_session.specs.declared.ends.LinkEnd.{LinkEnd}
 use Rattle.agg_session.specs.declared.ends.LinkEnd.TheVariants as ends
 use Rattle.agg_session.specs.declared.status.Status.{Status}
 use Rattle.agg_session.specs.declared.status.Status.TheVariants as status
-use Rattle.agg_session.specs.declared.link.Transaction.{Transaction}
-use Rattle.agg_session.specs.Links.{first_link, views_of, IsLink, AreSeen}
-use Rattle.agg_session.specs.Running.{StillHas}
+use Rattle.session_link.specs.declared.link.Transaction.{Transaction}
+use Rattle.session_link.specs.Links.{first_link, views_of, IsLink, AreSeen}
+use Rattle.session_link.specs.Running.{StillHas}
 use Rattle.agg_model.specs.declared.change.Change.{Change}
 use Rattle.agg_model.specs.Batch.{IsChange}
 use Rattle.agg_session.specs.Served.{IsServed, IsAnswered, ServesAll, ServesEnded, ServesPart, EndsLong}
-use Rattle.agg_session.specs.State.{starting}
+use Rattle.session_link.specs.State.{starting}
 use Rattle.agg_session.specs.Answer.{after, joined, replies, state_after, AreSettled, ended_lines}
 use Rattle.agg_session.specs.Statuses.{status_of_words}
 use Rattle.agg_session.specs.Top.{usual_limits, AsksForRun, empty_list, empty_held, status_of, EndsWhole, EndsBetween, EndsWithin, HasRowsOf, IsSettled, AreLeft, IsBetween, IsShort}
@@ -78,25 +79,8 @@ no_rows o none h told = ap (λ (k : Held). k.rows) (none h told)
 -- a session before its first line
 pub first_served : {D K : Type 0} (limits : Limits) (served : Served D K) → served.lines ≡ 0 → served.cut ≡ record { limit = limits.line; left = [] } → served.session.link ≡ first_link → IsStore limits.content served.session.store → served.session.store.hot.epoch ≡ 1 → IsServed limits served
 first_served limits served lines cut link stored epoch =
-    let none : served.session.link.transactions ≡ [] = ap (λ (l : Link). l.transactions) link in
     record {
-      session = record {
-        store = stored;
-        link = subst (IsLink limits (4096 * served.session.store.size)) (sym link) (record {
-          content = refl;
-          within = omega arith;
-          pending = record {
-            ascend = tt;
-            below_far = All-nil (λ (c : Change). c.tx < 4096 * served.session.store.size);
-            fit = All-nil IsChange;
-          };
-          latest_first = All-nil (λ (c : Change). c.tx ≤ 0);
-          near = omega (arith, stored.size_from_one);
-        });
-        views = subst (λ (ts : List Transaction). All (λ (t : Transaction). HasView served.session.store t.view) ts) (sym none)
-            (All-nil (λ (t : Transaction). HasView served.session.store t.view));
-        pins = subst (λ (ts : List Transaction). ArePinned served.session.store.sets.held (views_of ts)) (sym none) (λ n. omega arith);
-      };
+      session = first_session limits served.session link stored;
       limit = ap (λ (u : Uncut). u.limit) cut;
       opens = let same : served.session.link.opens ≡ 0 = ap (λ (l : Link). l.opens) link in omega (arith, same);
       epoch = omega (arith, epoch);

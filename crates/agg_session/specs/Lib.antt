@@ -1,7 +1,4 @@
-pub mod State
 pub mod Answer
-pub mod Links
-pub mod Running
 pub mod Ends
 pub mod Statuses
 pub mod Served

@@ -5,7 +5,7 @@ use Rattle.agg_outside.specs.declared.keeper.Keeper.{Ghosts as KeeperGhosts}
 use Rattle.agg_outside.specs.declared.source.Source.{Ghosts as SourceGhosts}
 use Rattle.agg_outside.specs.declared.sink.Sink.{Ghosts as SinkGhosts}
 use Rattle.agg_model.specs.ChangeList.{ChangeList}
-use Rattle.agg_session.specs.declared.limits.Limits.{Limits}
+use Rattle.session_link.specs.declared.limits.Limits.{Limits}
 use Rattle.agg_session.specs.declared.served.Served.{Served}
 use Rattle.agg_session.specs.declared.run.Ended.{Ended}
 use Rattle.agg_session.specs.Served as link

@@ -1,16 +1,18 @@
 -- How far a text has been answered.
-use Rattle.std.specs.Prelude.{◌≡◌, ◌⊎◌, ℕ, ◌+◌, ◌<◌, ◌≤◌, List, [], ◌++◌, length, IsSomeAnd, Option, Some}
+use Rattle.std.specs.Prelude.{◌≡◌, ◌⊎◌, ℕ, ◌+◌, ◌<◌, ◌≤◌, true, List, [], ◌++◌, length, IsSomeAnd, Option, Some, Result}
+use Rattle.std.specs.Prelude.{is_some, IfSome, IfNone, IfOk, OnErr}
 use Rattle.std.specs.Option.{ForSome}
 use Rattle.agg_outside.specs.declared.disk.Disk.{Ghosts as DiskGhosts}
 use Rattle.line_words.specs.LineCut.{Piece, pieces_of}
+use Rattle.state_store.specs.declared.stop.Stop.{Stop}
 use Rattle.state_store.specs.declared.store.Store.{Store}
 use Rattle.state_store.specs.Store.{steps_held}
-use Rattle.agg_session.specs.declared.limits.Limits.{Limits}
+use Rattle.session_link.specs.declared.limits.Limits.{Limits}
 use Rattle.agg_session.specs.declared.served.Served.{Served}
-use Rattle.agg_session.specs.declared.session.Session.{Session}
-use Rattle.agg_session.specs.State.{State}
-use Rattle.agg_session.specs.Answer.{replies, state_after, AreSettled, joined, ended_lines, IsPartway}
-use Rattle.agg_session.specs.Running.{IsSession, Stands, StillHas}
+use Rattle.session_link.specs.declared.session.Session.{Session}
+use Rattle.session_link.specs.State.{State}
+use Rattle.agg_session.specs.Answer.{effect, replies, state_after, AreSettled, joined, ended_lines, IsPartway}
+use Rattle.session_link.specs.Running.{IsSession, Stands, HasEffect, StillHas, EndsAt, KeepsDevices}
 
 -- Fewer transactions were opened than lines were answered, so that their numbers can be counted, and the epoch is
 -- one above the lines at most.
@@ -19,6 +21,20 @@ pub record IsServed {D K : Type 0} (limits : Limits) (served : Served D K) : Typ
   pub limit : served.cut.limit ≡ limits.line
   pub opens : served.session.link.opens ≤ served.lines
   pub epoch : served.session.store.hot.epoch ≤ served.lines + 1
+
+-- What a line that may have been cut off gets: the text of its reply, where there was one, and else
+-- nothing is done.
+pub record IsReplied {D K : Type 0} (disk : DiskGhosts D) (limits : Limits) (number : ℕ)
+    (piece : Option Piece) (old new : Session D K) (result : Result (Option (List ℕ)) Stop) : Type 0 where
+  pub found : IfOk result (λ text. is_some text ≡ is_some piece)
+  pub none : IfOk result (λ text. IfNone text (new ≡ old))
+  pub exact : (s : State) → Stands disk old s →
+      IfOk result (λ text. IfSome text (λ t.
+      IfSome piece (λ p. HasEffect disk new t (effect limits number p s))))
+  pub err_found : OnErr result (true ≡ is_some piece)
+  pub err : (s : State) → Stands disk old s →
+      OnErr result (IfSome piece (λ p. EndsAt disk new.store s.list (effect limits number p s).state.list))
+  pub devices : KeepsDevices disk old.store new.store result
 
 -- The lines are answered from a start: their replies stand in the sink behind what it had at first,
 -- where it tells, the session stands for the state after them, and the steps that they say are in files.

@@ -13,12 +13,12 @@ use Rattle.command_words.specs.declared.words.Command.TheVariants.{Run}
 use Rattle.line_words.specs.LineCut.{Piece}
 use Rattle.state_store.specs.declared.store.Store.{Store}
 use Rattle.state_store.specs.Store.{Holds, steps_held}
-use Rattle.agg_session.specs.declared.limits.Limits.{Limits}
+use Rattle.session_link.specs.declared.limits.Limits.{Limits}
 use Rattle.agg_session.specs.declared.status.Status.{Status}
 use Rattle.agg_session.specs.declared.status.Status.TheVariants as status
 use Rattle.agg_session.specs.declared.ends.LinkEnd.{LinkEnd}
 use Rattle.agg_session.specs.declared.ends.LinkEnd.TheVariants as ends
-use Rattle.agg_session.specs.State.{starting}
+use Rattle.session_link.specs.State.{starting}
 use Rattle.agg_session.specs.Answer.{answer, after, joined, replies, state_after, AreSettled, ended_lines, IsPartway}
 use Rattle.agg_session.specs.Served.{IsTaken, IsAtEnd, AreDue, EndsLong}
 

@@ -2,7 +2,7 @@ ghost use Rattle.std.specs.Prelude.{◌≤◌, ◌^◌};
 
 use crate::made_sessions::Draws;
 use crate::*;
-use agg_outside::{Bytes, FileMap, KeeperStart, Memory, Rowlist};
+use agg_outside::{FileMap, KeeperStart, Memory, Rowlist};
 use memory_side::{SureDisk, SureKeeper, SureSink, SureSource};
 use std::alloc::Global;
 use std::rt::Clock;
@@ -10,20 +10,14 @@ use std::sync::Wait;
 use std::test::Fail;
 use std::thread::Threads;
 
-// What a run has written, and the disk that it leaves.
-#[derive(Drop)]
-struct Left {
-    replies: Bytes,
-    disk: SureDisk,
-}
-
-// A run over the disk and the keeper that the program has; `None` where it isn't done.
-fn left_by<H: Threads + Wait + Clock + Sync>(
+// The disk that a run leaves which began with an empty one; `None` where it isn't done.
+fn disk_left<H: Threads + Wait + Clock + Sync>(
     rt: &H,
     alloc: Global,
     size: u64,
     text: &[u8],
-) -> Result<Option<Left>, Memory>
+    sink: &mut SureSink,
+) -> Result<Option<SureDisk>, Memory>
     requires from_one { 1 ≤ size }
     requires within { size ≤ 2 ^ 32 }
 {
@@ -34,25 +28,12 @@ fn left_by<H: Threads + Wait + Clock + Sync>(
     };
     let keeper = SureKeeper::new(alloc, &rows)?;
     let mut source = SureSource::new(alloc, text)?;
-    let mut sink = SureSink::new(alloc, &[])?;
     let limits = Limits::usual();
-    let ended = run_plain(
-        rt,
-        alloc,
-        disk,
-        keeper,
-        size,
-        &limits,
-        &mut source,
-        &mut sink,
-    );
+    let ended = run_plain(rt, alloc, disk, keeper, size, &limits, &mut source, sink);
     if ended.status != Status::Done {
         return Ok(None);
     }
-    Ok(Some(Left {
-        replies: Bytes::of(alloc, sink.bytes())?,
-        disk: ended.disk,
-    }))
+    Ok(Some(ended.disk))
 }
 
 // The hash of no bytes: it is FNV-1a with 64 bits.
@@ -93,11 +74,12 @@ const BLOCKS_HASH: u64 = 12549730969641508042;
 
 #[test]
 fn the_files_of_the_blocks_have_their_bytes(rt: HostRuntime) -> Result<(), Fail> {
-    let Some(left) = left_by(&rt, rt.alloc(), 4, BLOCKS)? else {
+    let mut sink = SureSink::empty(rt.alloc());
+    let Some(disk) = disk_left(&rt, rt.alloc(), 4, BLOCKS, &mut sink)? else {
         return Err(Fail::new("not done"));
     };
-    assert_eq!(rt; left.disk.files().len(), 58);
-    assert_eq!(rt; hashed_files(EMPTY_HASH, left.disk.files()), BLOCKS_HASH);
+    assert_eq!(rt; disk.files().len(), 58);
+    assert_eq!(rt; hashed_files(EMPTY_HASH, disk.files()), BLOCKS_HASH);
     Ok(())
 }
 
@@ -112,10 +94,11 @@ fn hashed_sessions<H: Threads + Wait + Clock + Sync>(
     for _ in 0..30 {
         let size = draws.size();
         let text = draws.session(alloc, size)?;
-        let Some(left) = left_by(rt, alloc, size, text.as_bytes())? else {
+        let mut sink = SureSink::empty(alloc);
+        let Some(disk) = disk_left(rt, alloc, size, text.as_bytes(), &mut sink)? else {
             return Ok(None);
         };
-        hash = hashed_files(hashed(hash, left.replies.as_slice()), left.disk.files());
+        hash = hashed_files(hashed(hash, sink.bytes()), disk.files());
     }
     Ok(Some(hash))
 }

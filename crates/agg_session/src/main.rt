@@ -1,4 +1,4 @@
-//! The session: lines in, replies out, over a keeper of rows; and the program that runs one over its
+//! A whole session: lines in, replies out, over a keeper of rows; and the program that runs one over its
 //! standard input and output.
 #![tactic(auto)]
 
@@ -9,31 +9,23 @@ mod ending_tests;
 mod ends;
 #[cfg(test)]
 mod file_tests;
-mod limits;
-mod link;
 #[cfg(test)]
 mod made_sessions;
-mod reading;
 mod run;
 mod served;
-mod session;
 mod status;
 mod taking;
 #[cfg(test)]
 mod tests;
-#[cfg(test)]
-mod word_tests;
 mod writing;
 
 use agg_outside::{FileMap, KeeperStart, Keys, Memory, NoGate, Rowlist};
 pub use ends::LinkEnd;
-pub use limits::Limits;
-pub use link::{Link, Transaction};
 use memory_side::{SureDisk, SureDoors, SureKeeper};
 use real_side::{StdSink, StdSource};
 pub use run::{Ended, aggregate, run_plain};
 pub use served::Served;
-pub use session::Session;
+pub use session_link::{Limits, Link, Session, Transaction};
 pub use status::Status;
 use std::env;
 use std::io::ErrorKind;

@@ -7,8 +7,8 @@ ghost use Rattle.agg_outside.specs.Counts.{Rose};
 ghost use Rattle.agg_model.specs.ChangeList.{ChangeList};
 ghost use Rattle.agg_core.specs.Files.{SameOutside};
 ghost use Rattle.state_store.specs.Store.{IsStore, Holds, Goes, ArePinned};
-ghost use Rattle.agg_session.specs.Links.{views_of};
-ghost use Rattle.agg_session.specs.Running.{StillHas};
+ghost use Rattle.session_link.specs.Links.{views_of};
+ghost use Rattle.session_link.specs.Running.{StillHas};
 ghost use Rattle.agg_session.specs.Served.{EndsLong, IsAtEnd, TakesAtMost, TakesFewer};
 ghost use Rattle.agg_session.specs.Top.{usual_limits, AsksForRun, IsSettled, empty_list, empty_held, status_of};
 ghost use Rattle.agg_session.specs.Top.{IsShort, IsBetween, IsCutShort};
@@ -16,15 +16,13 @@ ghost use Rattle.agg_session.specs.Over.{EndsWholeOver, EndsBetweenOver, EndsWit
 ghost use Rattle.command_words.specs.CommandWords.{command_of};
 
 use crate::ends::LinkEnd;
-use crate::limits::Limits;
-use crate::link::{Link, Transaction};
 use crate::served::Served;
-use crate::session::Session;
 use crate::status::Status;
 use crate::taking::serve;
 use agg_outside::{Disk, Doors, Gate, Keeper, ListOf, Sink, Source};
 use command_words::{Command, read_words};
 use line_words::LineCut;
+use session_link::{Limits, Link, Session, Transaction, close_all};
 use state_store::{NotMade, Store, store_laws};
 use std::alloc::Global;
 use std::rt::Clock;
@@ -50,21 +48,6 @@ fn status_of(end: LinkEnd) -> Status
         LinkEnd::Keeper => Status::KeeperFault,
         LinkEnd::Long => Status::Long,
         LinkEnd::Memory => Status::Memory,
-    }
-}
-
-// Closes the transactions that are still open.
-fn close_all<D: Disk, K: Keeper>(transactions: ListOf<Transaction>, store: &mut Store<D, K>)
-    requires { ArePinned store.old.sets.held (views_of transactions) }
-    ensures current { store.new.sets.current ≡ store.old.sets.current }
-    ensures others { store.new ≡ record store.old { sets = store.new.sets } }
-    ensures sound { (most : ℕ) → IsStore most store.old → IsStore most store.new }
-    ensures holds { (list : ChangeList) → Holds D.Disk store.old list → Holds D.Disk store.new list }
-    ensures goes { Goes D.Disk store.old store.new }
-{
-    for transaction in transactions.into_vec() {
-        let Transaction { view, .. } = transaction;
-        store.close(view);
     }
 }
 

@@ -3,18 +3,17 @@ ghost use Rattle.std.specs.Prelude.{◌≡◌, ◌<◌, ◌≤◌, ◌^◌, ◌+
 ghost use Rattle.std.specs.Prelude.{IfSome, IfNone, Option, None, is_some, true};
 ghost use Rattle.std.specs.Bool.{OnTrue, OnFalse};
 ghost use Rattle.line_words.specs.LineCut.{cut_of, next_cut, rest_cut, pieces_of};
-ghost use Rattle.agg_session.specs.State.{State};
+ghost use Rattle.session_link.specs.State.{State};
 ghost use Rattle.agg_session.specs.Ends.{IsBlamed, IsWant};
 ghost use Rattle.agg_session.specs.Answer.{effect, ended_lines};
-ghost use Rattle.agg_session.specs.Running.{IsSession, IsReplied, Stands, HasEffect, EndsAt, KeepsDevices};
-ghost use Rattle.agg_session.specs.Served.{IsServed, IsAnswered, HasAnswered, HasStopped};
+ghost use Rattle.session_link.specs.Running.{IsSession, Stands, HasEffect, EndsAt, KeepsDevices};
+ghost use Rattle.agg_session.specs.Served.{IsServed, IsReplied, IsAnswered, HasAnswered, HasStopped};
 
 use crate::ends::LinkEnd;
-use crate::limits::Limits;
-use crate::session::Session;
 use crate::writing::put_all;
 use agg_outside::{Bytes, Disk, Keeper, Sink};
 use line_words::{Cutting, LineCut, Reply};
+use session_link::{Limits, Session};
 use state_store::Stop;
 use std::alloc::Global;
 use std::rt::Clock;

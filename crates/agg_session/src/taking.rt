@@ -5,14 +5,14 @@ ghost use Rattle.std.specs.Option.{ForSome};
 ghost use Rattle.agg_outside.specs.Counts.{Rose};
 ghost use Rattle.line_words.specs.LineCut.{next_cut};
 ghost use Rattle.agg_session.specs.Ends.{IsBlamed, IsWant, ended_by};
-ghost use Rattle.agg_session.specs.Running.{IsSession};
+ghost use Rattle.session_link.specs.Running.{IsSession};
 ghost use Rattle.agg_session.specs.Served.{IsServed, IsTaken, IsAtEnd, EndsLong};
 ghost use Rattle.agg_session.specs.Over.{TakesOver, TakesPartOver, ServesAllOver, ServesEndedOver, ServesPartOver};
 
 use crate::ends::LinkEnd;
-use crate::limits::Limits;
 use crate::served::Served;
 use agg_outside::{Disk, Keeper, Sink, Source};
+use session_link::Limits;
 use std::alloc::Global;
 use std::rt::Clock;
 use std::sync::Wait;

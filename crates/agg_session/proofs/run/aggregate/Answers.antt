@@ -1,6 +1,6 @@
 use Rattle.std.proofs.Common.{[], Some, subst, ap, refl, ◌∙◌, arith}
 use Rattle.agg_core.proofs.Kept.{outside-refl}
-use Rattle.agg_session.specs.declared.limits.Limits.{Limits}
+use Rattle.session_link.specs.declared.limits.Limits.{Limits}
 use Rattle.agg_session.specs.declared.status.Status.TheVariants as status
 use Rattle.agg_session.specs.Served.{EndsLong}
 use Rattle.agg_session.specs.Top.{usual_limits}

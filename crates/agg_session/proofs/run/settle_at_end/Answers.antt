@@ -1,4 +1,4 @@
-use Rattle.agg_session.proofs.StoreLaws.{kept}
+use Rattle.session_link.proofs.StoreLaws.{kept}
 use Rattle.agg_session.proofs.run.settle_at_end.Goals as goal
 
 pub returns-in-Ok-clause-cut : goal.returns-in-Ok-clause-cut

@@ -1,6 +1,6 @@
 use Rattle.std.proofs.Common.{Option, subst}
 use Rattle.line_words.specs.LineCut.{Piece}
-use Rattle.agg_session.specs.Running.{IsReplied}
+use Rattle.agg_session.specs.Served.{IsReplied}
 use Rattle.agg_session.proofs.served.last_reply.Goals as goal
 
 pub returns-clause-replied : goal.returns-clause-replied

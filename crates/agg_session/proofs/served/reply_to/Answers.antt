@@ -1,7 +1,7 @@
 use Rattle.line_words.specs.LineCut.{Piece, cut_of}
-use Rattle.agg_session.proofs.StoreLaws.{on_err}
+use Rattle.session_link.proofs.StoreLaws.{on_err}
 use Rattle.agg_session.specs.Answer.{effect}
-use Rattle.agg_session.proofs.LineLaws.{ends_before}
+use Rattle.agg_session.proofs.StoppingLaws.{ends_before}
 use Rattle.agg_session.proofs.served.reply_to.Goals as goal
 
 pub returns-in_err-print-in-Long-clause-err : goal.returns-in_err-print-in-Long-clause-err

@@ -1,7 +1,7 @@
 use Rattle.std.proofs.Common.{◌∙◌, inl, inr, Err, ap, refl, arith}
 use Rattle.agg_session.specs.Ends.{ended_by}
 use Rattle.agg_session.proofs.TakingLaws.{goes_on, serves_all, last_part, piece_part, serves_ended, ended_part, ends_long, finished_well, finished_badly}
-use Rattle.agg_session.proofs.StoreLaws.{goes-trans}
+use Rattle.session_link.proofs.StoreLaws.{goes-trans}
 use Rattle.agg_session.proofs.BlameLaws.{wants_done, wants_long, was_err, rose_since, blamed_finish, blamed_behind, blamed_none}
 use Rattle.agg_session.proofs.taking.serve.Goals as goal
 

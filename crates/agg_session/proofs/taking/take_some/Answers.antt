@@ -1,9 +1,9 @@
 use Rattle.std.proofs.Common.{Err, refl, [], ap, ◌∙◌, arith, rules}
-use Rattle.agg_session.proofs.StoreLaws.{on_err}
+use Rattle.session_link.proofs.StoreLaws.{on_err}
 use Rattle.agg_session.proofs.TakingLaws.{untaken}
 use Rattle.agg_session.proofs.StoppingLaws.{stops_before}
 use Rattle.agg_outside.specs.Counts.{Rose}
-use Rattle.agg_session.proofs.StoreLaws.{goes-refl}
+use Rattle.session_link.proofs.StoreLaws.{goes-refl}
 use Rattle.agg_session.proofs.BlameLaws.{is_err_of, want_at_source, want_at, blamed_source, blamed_behind}
 use Rattle.agg_session.proofs.taking.take_some.Goals as goal
 

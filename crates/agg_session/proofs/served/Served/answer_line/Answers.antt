@@ -2,7 +2,7 @@ use Rattle.std.proofs.Common.{◌≡◌, Err, true, is_some, Some, None, List, �
 use Rattle.line_words.specs.LineCut.{Uncut, next_cut}
 use Rattle.agg_session.proofs.ServingLaws.{next_cut-shorter, next_cut-no_longer, next_cut-none, answered_same, answered_more, none_there, if_none, if_some}
 use Rattle.agg_session.specs.Written.{BeginsToPut}
-use Rattle.agg_session.proofs.StoreLaws.{on_err}
+use Rattle.session_link.proofs.StoreLaws.{on_err}
 use Rattle.agg_session.proofs.StoppingLaws.{stops_line, stops_put}
 use Rattle.agg_session.specs.Ends.{end_of_stop, end_of_sink}
 use Rattle.agg_session.proofs.BlameLaws.{is_err_of, want_at_stop, want_at_sink, blamed_stop, blamed_sink}

@@ -1,5 +1,5 @@
 use Rattle.std.proofs.Common.{refl, arith}
-use Rattle.agg_session.proofs.StoreLaws.{goes-trans}
+use Rattle.session_link.proofs.StoreLaws.{goes-trans}
 use Rattle.agg_session.proofs.BlameLaws.{is_err_of, blamed_ok, blamed_behind}
 use Rattle.agg_session.proofs.served.Served.answer_lines.Goals as goal
 

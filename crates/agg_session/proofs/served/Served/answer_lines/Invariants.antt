@@ -1,6 +1,6 @@
 use Rattle.std.proofs.Common.{◌≤◌, ◌+◌, List, ℕ, length, Option}
 use Rattle.state_store.specs.Store.{Goes}
-use Rattle.agg_session.specs.State.{State}
+use Rattle.session_link.specs.State.{State}
 use Rattle.agg_session.specs.Served.{IsServed, IsAnswered}
 use Rattle.agg_session.proofs.served.Served.answer_lines.Given as goal
 

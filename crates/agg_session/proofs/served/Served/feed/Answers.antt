@@ -1,7 +1,7 @@
 use Rattle.std.proofs.Common.{refl, arith}
-use Rattle.agg_session.proofs.StoreLaws.{on_err}
+use Rattle.session_link.proofs.StoreLaws.{on_err}
 use Rattle.agg_session.proofs.StoppingLaws.{stops_before}
-use Rattle.agg_session.proofs.StoreLaws.{goes-refl}
+use Rattle.session_link.proofs.StoreLaws.{goes-refl}
 use Rattle.agg_session.specs.declared.ends.LinkEnd.TheVariants as ends
 use Rattle.agg_session.proofs.BlameLaws.{is_err_of, want_at_memory, blamed_memory}
 use Rattle.agg_session.proofs.served.Served.feed.Goals as goal

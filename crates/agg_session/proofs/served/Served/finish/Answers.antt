@@ -2,7 +2,7 @@ use Rattle.std.proofs.Common.{◌≡◌, Err, true, refl, is_some, Some, List, �
 use Rattle.agg_session.proofs.ServingLaws.{finished_same, finished_more, if_none, if_some}
 use Rattle.line_words.specs.LineCut.{rest_cut}
 use Rattle.agg_session.specs.Written.{BeginsToPut}
-use Rattle.agg_session.proofs.StoreLaws.{on_err}
+use Rattle.session_link.proofs.StoreLaws.{on_err}
 use Rattle.agg_session.proofs.StoppingLaws.{stops_last, stops_last_put}
 use Rattle.agg_session.specs.Ends.{end_of_stop, end_of_sink}
 use Rattle.agg_session.proofs.BlameLaws.{is_err_of, want_at_stop, want_at_sink, blamed_stop, blamed_sink}

@@ -1,0 +1,4 @@
+pub mod StoreLaws
+pub mod LinkLaws
+pub mod SessionLaws
+pub mod LineLaws

@@ -1,0 +1,38 @@
+use Rattle.std.proofs.Common.{rules, ◌≡◌, Some, None, refl, ap, sym, ◌∙◌}
+use Rattle.std.specs.Option.{option_copied}
+use Rattle.session_link.specs.State.{latest_reply, value_reply}
+use Rattle.session_link.proofs.StoreLaws.{on_err, kept, read_holds, read_epoch, devices_below}
+use Rattle.session_link.proofs.SessionLaws.{read_told, not_read, own_read, has_view, read_session}
+use Rattle.session_link.proofs.session.Session.latest.Goals as goal
+
+pub latest-requires : goal.latest-requires
+latest-requires g c = (
+  search rules,
+  has_view c.args.self.now.store c.args.number c.args.self.now.link.transactions c.in-Some.opened.now (ap option_copied (sym c.in-Some.is) ∙ c.transaction.ensures) c.requires.views,
+)
+
+pub returns-in_default-clause-exact : goal.returns-in_default-clause-exact
+returns-in_default-clause-exact g c = λ s stands. not_read g.D.Disk c.args.self.now c.args.number (latest_reply c.args.entity c.args.key.now) s stands (ap option_copied (sym c.in_default.is) ∙ c.transaction.ensures)
+
+pub returns-in_default-clause-own : goal.returns-in_default-clause-own
+returns-in_default-clause-own g c = λ t list is read. let none : Some t ≡ None = is ∙ sym c.transaction.ensures ∙ ap option_copied c.in_default.is in cc
+
+pub returns-clause-exact : goal.returns-clause-exact
+returns-clause-exact g c = λ s stands.
+    read_told g.D.Disk c.args.self.now _ c.args.number c.in-Some.opened.now (latest_reply c.args.entity c.args.key.now) c.value_reply.result s stands
+    (ap option_copied (sym c.in-Some.is) ∙ c.transaction.ensures) (λ list sees. c.value_reply.ensures ∙ ap value_reply (c.in_ok-value.ensures.value list sees c.requires.domain)) c.in_ok-value.ensures.same c.in_ok-value.ensures.goes
+
+pub returns-clause-own : goal.returns-clause-own
+returns-clause-own g c = λ t list is sees.
+    own_read c.args.self.now.store.hot c.args.self.now.store.size c.args.number c.args.self.now.link.transactions t c.in-Some.opened.now list (latest_reply c.args.entity c.args.key.now) c.value_reply.result is (ap option_copied (sym c.in-Some.is) ∙ c.transaction.ensures) sees
+    (λ seen. c.value_reply.ensures ∙ ap value_reply (c.in_ok-value.ensures.value list seen c.requires.domain))
+
+pub returns-clause-sound : goal.returns-clause-sound
+returns-clause-sound g c = λ limits sound. read_session limits c.args.self.now _ c.in_ok-value.ensures.same sound
+
+pub returns-in_err-value-clause-sound : goal.returns-in_err-value-clause-sound
+returns-in_err-value-clause-sound g c = λ limits sound. read_session limits c.args.self.now _ c.in_err-value.ensures.same sound
+
+pub returns-in_err-value-clause-err : goal.returns-in_err-value-clause-err
+returns-in_err-value-clause-err g c = λ s stands.
+    on_err c.from_residual.result _ (kept g.D.Disk _ s.list (read_holds c.args.self.now.store g.D.Disk _ s.list c.in_err-value.ensures.same stands.list))
