@@ -253,6 +253,17 @@ fn a_file_in_place_of_the_folder_is_refused_and_left(rt: HostRuntime) -> Result<
     Ok(())
 }
 
+#[test]
+fn a_folder_that_nobody_may_write_is_refused(rt: HostRuntime) -> Result<(), Fail> {
+    let alloc = rt.alloc();
+    // The system refuses new files there to all, also to those who have every right.
+    let mut disk = DirDisk::at(&rt, "/proc/self");
+    assert_eq!(rt; disk.write_new(alloc, b"a", b"x"), Err(DiskError::Failed));
+    assert_eq!(rt; disk.rename(alloc, b"status", b"a"), Err(DiskError::Failed));
+    assert_eq!(rt; disk.remove(alloc, b"status"), Err(DiskError::Failed));
+    Ok(())
+}
+
 const FULL: &str = "real_devices_full";
 
 #[test]

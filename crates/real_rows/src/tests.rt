@@ -296,6 +296,11 @@ fn a_file_that_cant_be_made_is_refused(rt: HostRuntime) -> Result<(), Fail> {
         Err(KeeperError::Failed)
     );
     fs::remove_dir(&rt, "real_rows_none")?;
+    // The system refuses new files there to all, also to those who have every right.
+    assert_eq!(rt;
+        floor_in(SqlTable::at(&rt, "/proc/self/rows.db")),
+        Err(KeeperError::Failed)
+    );
     Ok(())
 }
 
