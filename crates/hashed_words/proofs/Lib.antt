@@ -1,3 +1,5 @@
+pub mod Filters
+pub mod Begins
 pub mod Walks
 pub mod Values
 pub mod Openings

@@ -1,15 +1,14 @@
 -- What a file of words is refused for, step by step.
-use Rattle.std.proofs.Common.{◌≡◌, ℕ, zero, suc, ◌+◌, ◌*◌, ◌<◌, ◌≤◌, ◌^◌, Bool, true, false, cond, nat_eq, eqb-true, rules, List, [], ◌∷◌, length, Option, Some, None, refl, sym, ap, ◌∙◌, arith, subst}
+use Rattle.std.proofs.Common.{◌≡◌, ℕ, ◌<◌, ◌^◌, Bool, true, false, cond, nat_eq, eqb-true, rules, List, length, Option, Some, None, refl, sym, ap, ◌∙◌, arith, subst}
 use Rattle.std.specs.Prelude.{Result, Ok, Err}
 use Rattle.std.specs.Option.{option_map, option_or}
 use Rattle.agg_model.specs.declared.entity.FileKind.{FileKind}
 use Rattle.word_file.specs.declared.tag.Tag.{Tag}
 use Rattle.word_file.specs.declared.error.WordError.{WordError}
-use Rattle.word_file.specs.Spelling.{TaggedWords, IsTag, AreShort, Fits, spelling, offset_at, body, end_of}
+use Rattle.word_file.specs.Spelling.{TaggedWords, IsTag, AreShort, Fits, spelling, offset_at, end_of}
 use Rattle.word_file.specs.Reading.{checked}
 use Rattle.word_file.specs.Paired.{IsPaired}
 use Rattle.word_file.proofs.Bodies.{length-body}
-use Rattle.hashed_words.specs.declared.error.FileError.{FileError}
 use Rattle.hashed_words.specs.declared.error.FileError.TheVariants.{Bad}
 use Rattle.hashed_words.specs.Rules.{Rules, bad_place}
 use Rattle.hashed_words.specs.Faults.{word_fault, tag_difference, rule_fault, ok_unless, judged, opened, named}

@@ -1,5 +1,5 @@
 -- The words of pairs.
-use Rattle.std.proofs.Common.{◌≡◌, ℕ, zero, suc, ◌+◌, ◌*◌, ◌<◌, List, [], ◌∷◌, length, get_or, map, refl, sym, ap, ◌∙◌, arith, subst}
+use Rattle.std.proofs.Common.{◌≡◌, ℕ, zero, suc, ◌+◌, ◌*◌, ◌<◌, List, [], ◌∷◌, length, get_or, refl, sym, ap, ◌∙◌, arith, subst}
 use Rattle.agg_model.specs.Pairs.{IsBelow, KeysAscend}
 use Rattle.word_file.specs.Paired as file
 use Rattle.word_file.proofs.Ascents.{ascending_differ}

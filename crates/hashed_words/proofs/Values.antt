@@ -3,7 +3,7 @@ use Rattle.std.proofs.Common.{◌≡◌, ℕ, zero, suc, ◌+◌, ◌*◌, ◌<�
 use Rattle.std.specs.Prelude.{IfNone}
 use Rattle.std.specs.Cmp.Lexicographic.{pointwise, bytes_decides}
 use Rattle.word_file.specs.Spelling.{TaggedWords}
-use Rattle.word_file.specs.Paired.{KeysDiffer, key_count, key_at, key_offset}
+use Rattle.word_file.specs.Paired.{KeysDiffer, key_at}
 use Rattle.recsplit_index.specs.Keys.{IsKeyAt, IsNoKey}
 use Rattle.hashed_words.specs.Hashed.{value_at, value_of, IsPairAt}
 

@@ -1,8 +1,8 @@
 -- The words that a walk has passed.
-use Rattle.std.proofs.Common.{◌≡◌, ℕ, zero, suc, ◌+◌, ◌*◌, ◌<◌, ◌≤◌, ◌^◌, Bool, true, false, cond, List, [], ◌∷◌, ◌++◌, length, get_or, drop, Option, Some, None, refl, sym, ap, ◌∙◌, arith, subst, ltb, drop-cons, add-one, lt-ltb, ltb-false}
+use Rattle.std.proofs.Common.{◌≡◌, ℕ, suc, ◌+◌, ◌*◌, ◌≤◌, Bool, true, false, cond, List, [], ◌∷◌, length, get_or, drop, Option, Some, None, refl, sym, ap, ◌∙◌, arith, ltb, drop-cons, add-one, ltb-false}
 use Rattle.std.proofs.lemmas.List.{length-append}
 use Rattle.std.specs.Option.{option_map}
-use Rattle.word_file.specs.Spelling.{TaggedWords, AreShort, Fits, IsPlace, spelling, body, header, end_of, offset_at, offset_of}
+use Rattle.word_file.specs.Spelling.{TaggedWords, IsPlace, spelling, body, header, end_of, offset_at, offset_of}
 use Rattle.word_file.proofs.Headers.{length-header}
 use Rattle.word_file.proofs.Bodies.{offset_at_all}
 use Rattle.word_file.proofs.Places.{placed}

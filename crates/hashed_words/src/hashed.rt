@@ -3,12 +3,16 @@ ghost use Rattle.std.specs.Option.{option_copied};
 ghost use Rattle.word_file.specs.Paired.{IsPaired, KeysDiffer, key_count, key_at};
 ghost use Rattle.word_file.specs.Difference.{first_difference};
 ghost use Rattle.recsplit_index.specs.Keys.{IsKeyAt, IsNoKey};
+ghost use Rattle.recsplit_index.specs.Index.{index_of};
 ghost use Rattle.agg_model.specs.declared.entity.FileKind.{FileKind};
+ghost use Rattle.hashed_words.specs.declared.limits.TheConstants.{TRIES};
 ghost use Rattle.hashed_words.specs.declared.error.FileError.TheVariants.{Bad, Memory as NoMemory};
-ghost use Rattle.hashed_words.specs.Hashed.{accessor_bytes, form_of, value_at, value_of, IsPairAt, StartsPair};
+ghost use Rattle.hashed_words.specs.Hashed.{accessor_bytes, form_of, value_at, value_of, ArePairs, IsPairAt, StartsPair};
 
 use crate::error::FileError;
+use crate::filter::{marks_of, may_have};
 use crate::limits::TRIES;
+use crate::starts::starts_of;
 use agg_model::FileKind;
 use agg_outside::{Bytes, Memory, Steps};
 use recsplit_index::HashIndex;
@@ -18,11 +22,14 @@ use std::sync::ledger::{Blank, Ledger};
 use std::thread::Threads;
 use word_file::WordFile;
 
-/// Pairs of words, and the hash accessor of their keys.
+/// Pairs of words, and the hash accessor of their keys. In memory alone, where they are made: a filter before the
+/// accessor, and where some of the pairs start.
 #[derive(Debug, Drop)]
 pub struct HashedWords {
     words: WordFile,
     index: HashIndex,
+    marks: Vec<u8>,
+    starts: Vec<u64>,
 }
 
 impl Model for HashedWords {
@@ -33,22 +40,56 @@ impl Model for HashedWords {
 
     ghost view = { λ h. h.words };
 
-    ghost invariant = { λ h. IsHashed h.words.words h.index };
+    ghost invariant = { λ h. IsHashed h.words.words h.index h.marks.items h.starts.items };
 }
 
 impl HashedWords {
-    /// The words behind the accessor that is built of them.
+    /// The parts, with a filter and the places where some pairs start: they take three bytes a key.
+    fn filtered(alloc: Global, words: WordFile, index: HashIndex) -> Result<HashedWords, Memory>
+        requires paired { IsPaired words.words }
+        requires differ { KeysDiffer words.words }
+        requires indexed { index ≡ index_of TRIES words.words }
+        ensures { IfOk result (λ h. h ≡ words) }
+    {
+        let marks = marks_of::<Brand>(alloc, &words, Blank::new(1))?;
+        let starts = starts_of(alloc, &words)?;
+        Ok(HashedWords {
+            words,
+            index,
+            marks,
+            starts,
+        })
+    }
+
+    /// The words behind the accessor that is built of them, and before it a filter that tells of most keys by one
+    /// byte that they are none of theirs.
     pub fn of(alloc: Global, words: WordFile) -> Result<HashedWords, Memory>
         requires paired { IsPaired words.words }
         requires differ { KeysDiffer words.words }
         ensures { IfOk result (λ h. h ≡ words) }
     {
         let index = HashIndex::build(alloc, &words, TRIES)?;
-        Ok(HashedWords { words, index })
+        HashedWords::filtered(alloc, words, index)
     }
 
-    /// The words behind the accessor that is built of them, as `of` gives them; where there are many keys, the seeds of
-    /// the accessor are looked for side by side.
+    /// The words behind the accessor that is built of them, as `of` gives them, without a filter and without starts:
+    /// for words that are asked for keys that they have.
+    pub fn of_known(alloc: Global, words: WordFile) -> Result<HashedWords, Memory>
+        requires paired { IsPaired words.words }
+        requires differ { KeysDiffer words.words }
+        ensures { IfOk result (λ h. h ≡ words) }
+    {
+        let index = HashIndex::build(alloc, &words, TRIES)?;
+        Ok(HashedWords {
+            words,
+            index,
+            marks: Vec::new(alloc),
+            starts: Vec::new(alloc),
+        })
+    }
+
+    /// The words behind the accessor that is built of them, as `of_known` gives them; where there are many keys, the
+    /// seeds of the accessor are looked for side by side.
     pub fn of_side_by_side<R: Threads + Sync>(
         rt: &R,
         alloc: Global,
@@ -59,7 +100,12 @@ impl HashedWords {
         ensures { IfOk result (λ h. h ≡ words) }
     {
         let index = HashIndex::build_side_by_side(rt, alloc, &words, TRIES)?;
-        Ok(HashedWords { words, index })
+        Ok(HashedWords {
+            words,
+            index,
+            marks: Vec::new(alloc),
+            starts: Vec::new(alloc),
+        })
     }
 
     /// The words behind these bytes, where they are the accessor that is built of them; the accessor is a file of
@@ -84,7 +130,10 @@ impl HashedWords {
         ensures kind { (other : FileKind) (at : ℕ) → result ≡ Err (Bad other at) → other ≡ kind }
     {
         match HashIndex::check(alloc, accessor, &words, TRIES) {
-            Ok(index) => Ok(HashedWords { words, index }),
+            Ok(index) => {
+                let held = HashedWords::filtered(alloc, words, index)?;
+                Ok(held)
+            }
             Err(error) => Err(FileError::of_accessor(kind, error)),
         }
     }
@@ -102,6 +151,13 @@ impl HashedWords {
         self.index.bytes()
     }
 
+    /// Where some of the pairs start: each eighth from the first on, in order, or none where none were made.
+    pub fn starts(&self) -> &[u64]
+        ensures { ArePairs self.now.words result.now }
+    {
+        self.starts.as_slice()
+    }
+
     /// 1 where a key is found by one word, and 0 where it is looked for by halves.
     pub fn form(&self) -> u8
         ensures { result ≡ form_of self.now.words }
@@ -117,6 +173,9 @@ impl HashedWords {
         ensures plain_steps { (digits : ℕ) → key_count self.now.words < 2 ^ digits →
             steps.new ≤ steps.old + (digits + 1) }
     {
+        if !may_have(self.marks.as_slice(), key) {
+            return None;
+        }
         self.index.find(&self.words, key, steps)
     }
 

@@ -2,12 +2,14 @@
 #![tactic(auto)]
 
 mod error;
+mod filter;
 mod hashed;
 mod limits;
 mod open;
 mod plain_keys;
 mod rules;
 mod shared;
+mod starts;
 
 pub use error::FileError;
 pub use hashed::HashedWords;

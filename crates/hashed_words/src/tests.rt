@@ -2,6 +2,7 @@ ghost use Rattle.std.specs.Prelude.{◌≡◌, ◌+◌, ◌<◌, nat_lt, if◌th
 ghost use Rattle.word_file.specs.Paired.{IsPaired, KeysDiffer};
 
 use super::*;
+use crate::filter::{marks_of, may_have};
 use agg_model::FileKind;
 use agg_outside::{Bytes, Memory, Steps};
 use std::alloc::Global;
@@ -131,9 +132,22 @@ fn two_keys(alloc: Global) -> Result<WordFile, Memory> {
     Ok(writer.finish())
 }
 
-/// The words behind their accessor; behind this text of one, where it isn't empty.
+/// Words of the keys of one byte below this one, each without a value.
+fn keys_below(alloc: Global, end: u8) -> Result<WordFile, Memory> {
+    let mut writer = WordWriter::new(alloc, TAG)?;
+    for key in 0..end {
+        writer.push(&[key])?;
+        writer.push(&[])?;
+    }
+    Ok(writer.finish())
+}
+
+/// Two keys behind their accessor; behind this text of one, where it isn't empty.
 fn hashed(alloc: Global, accessor: &[u8]) -> Result<HashedWords, FileError> {
-    let words = two_keys(alloc)?;
+    behind(alloc, two_keys(alloc)?, accessor)
+}
+
+fn behind(alloc: Global, words: WordFile, accessor: &[u8]) -> Result<HashedWords, FileError> {
     if !is_paired(&words) || !keys_differ::<Brand>(&words, Blank::new(1)) {
         return Err(FileError::Memory);
     }
@@ -181,5 +195,37 @@ fn an_accessor_is_accepted_whole(rt: HostRuntime) -> Result<(), Fail> {
         at: 5,
     };
     assert!(rt; accessor_refusal(rt.alloc(), 5) == Ok(Some(turned)));
+    Ok(())
+}
+
+/// How many keys of one byte, from 100 to 199, the filter of these words lets pass.
+fn passing(alloc: Global, words: &WordFile) -> Result<usize, Memory> {
+    if !is_paired(words) {
+        return Err(Memory);
+    }
+    let marks = marks_of::<Brand>(alloc, words, Blank::new(1))?;
+    let mut count = 0usize;
+    for key in 100..200 {
+        if may_have(marks.as_slice(), &[key]) {
+            count = count.saturating_add(1);
+        }
+    }
+    Ok(count)
+}
+
+#[test]
+fn few_keys_pass_that_arent_there(rt: HostRuntime) -> Result<(), Fail> {
+    let words = keys_below(rt.alloc(), 17)?;
+    assert!(rt; passing(rt.alloc(), &words)? < 25);
+    Ok(())
+}
+
+#[test]
+fn each_eighth_pair_is_told(rt: HostRuntime) -> Result<(), Fail> {
+    let Ok(words) = behind(rt.alloc(), keys_below(rt.alloc(), 17)?, &[]) else {
+        return Err(Fail::from("they may stand behind an accessor"));
+    };
+    // A pair of a key of one byte without a value takes nine bytes, behind a header of forty.
+    assert_eq!(rt; words.starts(), [40, 112, 184].as_slice());
     Ok(())
 }

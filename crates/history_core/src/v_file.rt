@@ -45,7 +45,7 @@ impl VFile {
         ensures { (befores : List Before) → IsFileOf words befores →
             IfOk result (λ f. f ≡ tagged_befores words.tag befores) }
     {
-        let file = HashedWords::of(alloc, words)?;
+        let file = HashedWords::of_known(alloc, words)?;
         Ok(VFile { file })
     }
 

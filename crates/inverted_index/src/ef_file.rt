@@ -5,7 +5,7 @@ ghost use Rattle.agg_model.specs.declared.entity.FileKind.{FileKind};
 ghost use Rattle.word_file.specs.Spelling.{TaggedWords};
 ghost use Rattle.word_file.specs.Reading.{tagged};
 ghost use Rattle.recsplit_index.specs.Keys.{IsKeyAt, IsNoKey};
-ghost use Rattle.hashed_words.specs.Hashed.{form_of, IsPairAt, StartsPair};
+ghost use Rattle.hashed_words.specs.Hashed.{form_of, ArePairs, IsPairAt, StartsPair};
 ghost use Rattle.hashed_words.specs.declared.error.FileError.TheVariants.{Bad, Memory as NoMemory};
 ghost use Rattle.inverted_index.specs.EfFile.{TaggedLists, tagged_lists, AreLists, AreWordsOf, words_of, numbers_of, first_from, ef_spelling, efi_spelling};
 ghost use Rattle.inverted_index.specs.EfRules.{fault_of};
@@ -128,6 +128,13 @@ impl EfFile {
             Some(list) => first_in(&list, n),
             None => None,
         }
+    }
+
+    /// Where some of its pairs start: each eighth from the first on, in order.
+    pub fn starts(&self) -> &[u64]
+        ensures { ArePairs (words_of self.now.lists) result.now }
+    {
+        self.held.starts()
     }
 
     /// The key whose word starts at this offset, and its numbers.

@@ -70,7 +70,7 @@ fn hash_from(start: u64, key: &[u8]) -> u64
 /// The hash scaled down to a number below `places`: the bucket of a key, where `places` is the
 /// number of buckets, and the last step of a position.
 #[tactic(auto, unfolding(crate::specs::Hash::scaled))]
-pub(crate) fn scale(hash: u64, places: u64) -> u64
+pub fn scale(hash: u64, places: u64) -> u64
     ensures value { result ≡ scaled hash places }
     ensures below { 0 < places → result < places }
 {

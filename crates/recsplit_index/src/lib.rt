@@ -17,7 +17,7 @@ mod spell;
 mod walk;
 
 pub use file::HashIndex;
-pub use hash::key_hash;
+pub use hash::{key_hash, scale};
 pub use shared::shares_hash_index;
 pub use word_file::AccessError;
 

@@ -230,6 +230,13 @@ find-found (t ∷ ts) first (suc place) key items low is high =
     (λ i. cond (not-from t.key first (low zero (omega arith)) i) (Some t.key) (next_from first ts))
     ∙ find-found ts first place key items (λ p below. low (suc p) (omega (arith, below))) is high
 
+-- a pair whose key is below the first one is a place to begin at
+pub start-pair : (ts : List Times) (first : List ℕ) (at place : ℕ) (key items : List ℕ) → KeysAscend (list_keys ts) → IsPairAt (words_of ts) at place → slice_get ts place ≡ Some (record { key = key; items = items })
+    → is_lt (order key first) ≡ true → IsStart ts first at
+start-pair ts first at place key items up p pair low =
+    start-key ts first key at up (below-is (order key first) low)
+    (record { place = place; within = p.within; key_is = key-at-pair ts place ∙ key-of-pair ts place key items pair; offset_is = p.offset })
+
 module _ (ts : List Times) (first : List ℕ) (at seen : ℕ) (w : IsWalked ts first at seen) where
   -- the key there is the first that isn't below the first one, and there it stands
   pub walked-found : (key items : List ℕ) → slice_get ts w.place ≡ Some (record { key = key; items = items }) → is_lt (order key first) ≡ false → Some key ≡ next_from first ts

@@ -1,5 +1,5 @@
 //! The keys of a group from one on, by its `.ef` file.
-ghost use Rattle.std.specs.Prelude.{◌≡◌, ℕ, ◌+◌, ◌<◌, ◌≤◌, [], List, length, IfSome, IfNone};
+ghost use Rattle.std.specs.Prelude.{◌≡◌, ℕ, ◌+◌, ◌<◌, ◌≤◌, true, [], List, length, IfSome, IfNone};
 ghost use Rattle.std.specs.Option.{option_map};
 ghost use Rattle.hashed_words.specs.Hashed.{IsPairAt, StartsPair};
 ghost use Rattle.inverted_index.specs.EfFile.{words_of};
@@ -8,11 +8,8 @@ ghost use Rattle.window_pages.specs.Places.{next_from};
 ghost use Rattle.window_pages.specs.Starts.{IsStart};
 
 use crate::order::is_below;
-use agg_outside::Steps;
 use collate_step::EntityFiles;
 use inverted_index::EfFile;
-use std::marker::Brand;
-use std::sync::ledger::{Blank, Ledger};
 
 // The offset of the pair behind this one.
 fn pair_behind(ef: &EfFile, at: u64) -> Option<u64>
@@ -29,31 +26,15 @@ fn pair_behind(ef: &EfFile, at: u64) -> Option<u64>
     words.next(numbers)
 }
 
-// The last key of `.kv` that is below the first one, if there is one. What it is matters for the time alone.
-fn key_before<'a, L: Ledger>(
-    group: &'a EntityFiles,
-    first: &[u8],
-    steps: &mut Steps<L>,
-) -> Option<&'a [u8]> {
-    let kv = group.kv()?;
-    let place = kv.seek(first, steps);
-    if place == 0 {
-        return None;
-    }
-    let (key, _value) = kv.pair_at(place - 1, steps);
-    Some(key)
-}
-
-// Where a key stands, if the file has it and it is below the first one.
-fn start_at<L: Ledger>(ef: &EfFile, key: &[u8], first: &[u8], steps: &mut Steps<L>) -> Option<u64>
-    ensures { IfSome result (IsStart ef.now.lists first.now) }
+// Whether the key whose pair starts here is below the first one.
+fn is_start(ef: &EfFile, at: u64, first: &[u8]) -> bool
+    requires { StartsPair (words_of ef.now.lists) at }
+    ensures { result ≡ true → IsStart ef.now.lists first.now at }
 {
     // That the keys ascend is a clause of this call.
     let _held = ef.words();
-    if !is_below(key, first) {
-        return None;
-    }
-    ef.offset_of(key, steps)
+    let (key, _numbers) = ef.pair_at(at);
+    is_below(key, first)
 }
 
 // The first pair.
@@ -64,18 +45,27 @@ fn first_pair(ef: &EfFile) -> Option<u64>
     ef.words().first()
 }
 
-// Where the walk begins: at the last key of `.kv` that is below the first one, or else at the first key.
-fn start_in<L: Ledger>(group: &EntityFiles, first: &[u8], steps: &mut Steps<L>) -> Option<u64>
-    ensures start { IfSome result (IsStart group.now.ef.lists first.now) }
-    ensures none { IfNone result (group.now.ef.lists ≡ []) }
+// Where the walk begins: of the pairs whose starts the file tells, at the last with a key below the first one, or
+// else at the first pair.
+fn start_in(ef: &EfFile, first: &[u8]) -> Option<u64>
+    ensures start { IfSome result (IsStart ef.now.lists first.now) }
+    ensures none { IfNone result (ef.now.lists ≡ []) }
 {
-    let ef = group.ef();
-    if let Some(key) = key_before(group, first, steps) {
-        if let Some(at) = start_at(ef, key, first, steps) {
-            return Some(at);
+    let starts = ef.starts();
+    let mut found = first_pair(ef);
+    let mut low = 0;
+    let mut high = starts.len();
+    while low < high {
+        let middle = low + (high - low) / 2;
+        let at = starts[middle];
+        if is_start(ef, at, first) {
+            found = Some(at);
+            low = middle + 1;
+        } else {
+            high = middle;
         }
     }
-    first_pair(ef)
+    found
 }
 
 /// The first key from the start on that isn't below the first one, and the offset of its pair.
@@ -99,28 +89,14 @@ pub(crate) fn key_from<'a>(ef: &'a EfFile, first: &[u8], start: u64) -> Option<(
     None
 }
 
-fn next_uncounted<'a, L: Ledger>(
-    group: &'a EntityFiles,
-    first: &[u8],
-    blank: Blank,
-) -> Option<(&'a [u8], u64)>
-    requires name { blank.name ≡ L.name }
-    requires parts { blank.parts ≡ L.parts }
-    requires some { 0 < L.parts }
-    ensures next { option_map (λ p. p.0.now) result ≡ next_from first.now group.now.ef.lists }
-    ensures there { IfSome result (λ p. IsKeyAt (words_of group.now.ef.lists) p.0.now p.1) }
-{
-    let mut steps = Steps::<L>::of(blank);
-    let Some(start) = start_in(group, first, &mut steps) else {
-        return None;
-    };
-    key_from(group.ef(), first, start)
-}
-
 /// The first key of a group that isn't below this one, and the offset of its pair.
 pub(crate) fn next_in_group<'a>(group: &'a EntityFiles, first: &[u8]) -> Option<(&'a [u8], u64)>
     ensures next { option_map (λ p. p.0.now) result ≡ next_from first.now group.now.ef.lists }
     ensures there { IfSome result (λ p. IsKeyAt (words_of group.now.ef.lists) p.0.now p.1) }
 {
-    next_uncounted::<Brand>(group, first, Blank::new(1))
+    let ef = group.ef();
+    let Some(start) = start_in(ef, first) else {
+        return None;
+    };
+    key_from(ef, first, start)
 }

@@ -1,4 +1,4 @@
-use Rattle.std.proofs.Common.{◌≡◌, ◌<◌, ◌^◌, length, Some, None, Err, refl, sym, ap, ◌∙◌, arith}
+use Rattle.std.proofs.Common.{◌≡◌, ◌<◌, ◌^◌, length, Some, Err, refl, sym, ap, ◌∙◌, arith}
 use Rattle.word_file.specs.declared.error.WordError.{WordError}
 use Rattle.hashed_words.specs.declared.error.FileError.TheVariants.{Bad}
 use Rattle.hashed_words.specs.Rules.{bad_place}

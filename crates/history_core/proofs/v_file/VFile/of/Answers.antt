@@ -5,11 +5,11 @@ use Rattle.history_core.specs.VFile.{tagged_befores, IsHeld}
 use Rattle.history_core.proofs.Held.{file_paired, file_differ, file_held, file_value}
 use Rattle.history_core.proofs.v_file.VFile.of.Goals as goal
 
-pub of-requires-clause-paired : goal.of-requires-clause-paired
-of-requires-clause-paired c = file_paired c.args.words c.requires.0 c.requires.1
+pub of_known-requires-clause-paired : goal.of_known-requires-clause-paired
+of_known-requires-clause-paired c = file_paired c.args.words c.requires.0 c.requires.1
 
-pub of-requires-clause-differ : goal.of-requires-clause-differ
-of-requires-clause-differ c = file_differ c.args.words c.requires.0 c.requires.1
+pub of_known-requires-clause-differ : goal.of_known-requires-clause-differ
+of_known-requires-clause-differ c = file_differ c.args.words c.requires.0 c.requires.1
 
 pub invariant_of-result : goal.invariant_of-result
 invariant_of-result c = subst IsHeld (sym c.in_ok-file.ensures) (file_held c.args.words c.requires.0 c.requires.1)

@@ -1,4 +1,0 @@
-use Rattle.window_pages.proofs.lists.next_in_group.Given as goal
-
-abbrev pub ghosts-next_uncounted : goal.ghosts-next_uncounted
-ghosts-next_uncounted a = record { name = a.blank.name; parts = a.blank.parts }
