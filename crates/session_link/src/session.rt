@@ -94,6 +94,9 @@ impl<D: Disk, K: Keeper> Session<D, K> {
         ensures opens { self.new.link.opens ≤ self.old.link.opens + 1 }
         ensures exact { (s : State) → Stands D.Disk self.old s →
             IfOk result (λ reply. Answers D.Disk self.new reply (commit_on limits.now s)) }
+        // What is answered otherwise is refused, and leaves the store as it was.
+        ensures refused { IfOk result (λ reply. ((changes next : ℕ) → reply ≡ says.Committed changes next → ⊥) →
+            self.new.store ≡ self.old.store) }
         ensures err { (s : State) → Stands D.Disk self.old s →
             OnErr result (StillHas D.Disk self.new.store s.list) }
         ensures devices { KeepsDevices D.Disk self.old.store self.new.store result }

@@ -1,5 +1,5 @@
 //! A batch that is added to the accepted changes.
-ghost use Rattle.std.specs.Prelude.{◌≡◌, ◌*◌, ◌<◌, ◌≤◌, ◌^◌, All, ◌+◌, None, IfOk, IfErr, OnErr, IsErrOf};
+ghost use Rattle.std.specs.Prelude.{◌≡◌, ◌*◌, ◌<◌, ◌≤◌, ◌^◌, All, ◌+◌, None, IfOk, IfNone, IfErr, OnErr, IsErrOf};
 ghost use Rattle.agg_model.specs.Batch.{content_of, IsBatch};
 ghost use Rattle.agg_model.specs.ChangeList.{ChangeList, next_of, begins_from};
 ghost use Rattle.state_store.specs.Store.{IsStore, Holds, Resumes, Commits, Goes, HasCauses};
@@ -41,6 +41,8 @@ impl<D: Disk, K: Keeper> Store<D, K> {
         // What faults have left of a step is then of the grown list.
         ensures resumes { (list : ChangeList) → Resumes D.Disk self.old list →
             IfOk result (λ answer. Commits (Resumes D.Disk self.new) most list pending answer) }
+        // A batch that is refused leaves everything as it was.
+        ensures refused { IfOk result (λ answer. IfNone answer (self.new ≡ self.old)) }
         ensures only { IfErr result (λ stop. stop ≡ Stop.Disk → ⊥) }
         // At the last epoch nothing is added.
         ensures rises { self.old.hot.epoch ≡ 2 ^ 62 → IfOk result (λ answer. answer ≡ None) }

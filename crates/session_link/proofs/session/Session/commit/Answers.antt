@@ -32,6 +32,9 @@ returns-clause-exact g c = λ s stands.
     c.in_ok-accepted.ensures.goes c.clear-pending.ensures.batch c.clear-pending.ensures.cleared c.in-Some-2.is
     c.in_ok-accepted.ensures.commits
 
+pub returns-clause-refused : goal.returns-clause-refused
+returns-clause-refused g c = λ other. absurd (other _ _ refl)
+
 pub returns-clause-sound : goal.returns-clause-sound
 returns-clause-sound g c = λ sound.
     commit_sound c.args.limits.now c.args.self.now _ c.in_ok-accepted.ensures.sound c.in_ok-accepted.ensures.goes.size
